@@ -1,0 +1,12 @@
+pub mod Order
+pub mod Walk
+pub mod Unique
+pub mod Rules
+pub mod Lists
+pub mod Partner
+pub mod Same
+pub mod Laws
+pub mod Bridge
+pub mod Counting
+pub mod Deciding
+pub mod Sampling

@@ -1,0 +1,36 @@
+// The value of a listing in the caller's slice.
+
+ghost use mathlib.Core.Path.{_≡_};
+ghost use mathlib.Core.Bool.{false};
+ghost use mathlib.Core.List.{map};
+ghost use lib.ListN.{getD};
+ghost use Rattle.listing.specs.Settings.{bit, fact};
+ghost use Rattle.listing.specs.Listing.{value};
+ghost use Rattle.listing.specs.Meaning.{Only-value};
+
+use crate::Record;
+use crate::Target;
+
+/// What a setting, one byte a fact, gives the fact of a level: only 1 says that it holds.
+pub fn fact_of(setting: &[u8], level: u16) -> bool
+    ensures { λ r. ⌜ r ≡ fact (map bit (now (setting .entry))) level ⌝ }
+{
+    let at = level as usize;
+    at < setting.len() && setting[at] == 1
+}
+
+/// The value of `root` at a setting, one byte a fact: from the root, take low where the node's fact is 0,
+/// else high, to a terminal. On a listing by the rules this is the only assignment of values to targets
+/// that obeys the laws of a value. One pass over the records.
+pub fn value_at(records: &[Record], root: Target, setting: &[u8]) -> bool
+    ensures value { λ r. ⌜ r ≡ value (now (records .entry)) (map bit (now (setting .entry))) root ⌝ }
+    ensures only { λ _. ⌜ Only-value root (now (records .entry)) (map bit (now (setting .entry))) ⌝ }
+{
+    let mut target = root;
+    for r in records {
+        if target.names(*r) {
+            target = r.child(fact_of(setting, r.level));
+        }
+    }
+    target.is_true()
+}

@@ -1,0 +1,5 @@
+pub mod Columns
+pub mod Faults
+pub mod Layout
+pub mod Opened
+pub mod Summary
