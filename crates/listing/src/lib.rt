@@ -91,14 +91,14 @@ impl Record {
     pub fn same(self, other: Record) -> bool
         ensures { λ r. ⌜ Decides r (self ≡ other) ⌝ }
     {
-        self == other
+        other == self
     }
 
     /// Whether this record comes before the other by level, number, low, high.
     pub fn precedes(self, other: Record) -> bool
         ensures { λ r. ⌜ Decides r (Record-before self other) ⌝ }
     {
-        self < other
+        other > self
     }
 
     /// Whether the other record comes after this one by low, then by high.

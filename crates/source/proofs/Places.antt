@@ -5,7 +5,10 @@ use Prim.Native.Nat.{ℕ, zero, suc, _+_, _<_}
 use native.Mathlib.Omega.{arith}
 use lib.ListN.{length, drop}
 use Rattle.std.specs.shelf.Maps.{nth}
+use denote.Ref.{RefT, now}
 use Rattle.std.specs.Options.{mapped}
+use Rattle.std.specs.Places.{Item}
+use Rattle.std.proofs.shelf.Maps.{nth-past, nth-read}
 use Rattle.std.specs.declared.option.Option.{Option}
 use Rattle.std.specs.declared.option.Option.the-variants.{Some, None}
 
@@ -28,3 +31,8 @@ pub nth-within : {X : Type 0} (xs : List X) (i : ℕ) → i < length xs → None
 nth-within [] i h e = omega arith
 nth-within (x ∷ xs) zero h e = let z : _≡_ {A = ℕ} 0 1 = cc in omega arith
 nth-within (x ∷ xs) (suc i) h e = nth-within xs i (omega arith) e
+
+-- what a slice's `get` finds, copied out
+pub get-nth : {X : Type 0} (xs : List X) (i : ℕ) (r : Option (RefT X)) → Item xs i i r → mapped now r ≡ nth xs i
+get-nth xs i None h = sym (nth-past xs i (h .3))
+get-nth xs i (Some x) h = sym (nth-read xs (length xs) i (x .now) refl (h .3 .0) (h .1))

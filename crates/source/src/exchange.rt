@@ -56,23 +56,16 @@ pub impl<S: Source> Source for Exchanged<S> as ExchangedSource {
     }
 }
 
-/// Lays the exchange over a source. Where the source tells a listing by the rules, so does the exchange, and
-/// its value is the other one at every setting.
-pub fn exchange<S: Source>(source: S) -> Exchanged<S>
-    ensures below { λ r. ⌜ r .below ≡ source ⌝ }
-    ensures negates { λ _. ⌜ Negates (S·Source .facts source) (S·Source .top source) (S·Source .listed source) ⌝ }
-{
-    Exchanged { below: source }
-}
-
 /// What the exchange of the exchange of a source tells: n, root, N and the record at a place. It is what the
-/// source itself tells.
+/// source itself tells. Of a listing by the rules, a single exchange is a listing by the rules too, and its value
+/// is the other one at every setting.
 pub fn exchanged_twice<S: Source>(source: &S, place: usize) -> (u16, Target, usize, Option<Record>)
     ensures n { λ r. ⌜ r .0 ≡ facts (now (source .entry)) ⌝ }
     ensures root { λ r. ⌜ r .1 ≡ top (now (source .entry)) ⌝ }
     ensures count { λ r. ⌜ r .2 ≡ length (listed (now (source .entry))) ⌝ }
     ensures recorded { λ r. ⌜ r .3 ≡ nth (listed (now (source .entry))) place ⌝ }
+    ensures negates { λ _. ⌜ Negates (facts (now (source .entry))) (top (now (source .entry))) (listed (now (source .entry))) ⌝ }
 {
-    let twice = exchange(exchange(source));
+    let twice = Exchanged { below: Exchanged { below: source } };
     (twice.n(), twice.root(), twice.count(), twice.record(place))
 }

@@ -32,10 +32,6 @@ pub impl<'a> Source for Records<'a> as RecordsSource {
     }
 
     fn record(&self, place: usize) -> Option<Record> {
-        if place < self.records.len() {
-            Some(self.records[place])
-        } else {
-            None
-        }
+        self.records.get(place).copied()
     }
 }

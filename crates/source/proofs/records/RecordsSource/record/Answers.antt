@@ -1,9 +1,6 @@
-use borrow.Author.Needs.{needs}
-use Rattle.std.proofs.shelf.Maps.{nth-getD, nth-past}
+use mathlib.Core.Path.{_∙_}
+use Rattle.source.proofs.Places.{get-nth}
 use Rattle.source.proofs.records.RecordsSource.record.Needs as need
 
-pub returns-then-place-self : need.returns-then-place-self
-returns-then-place-self c = search (needs, nth-getD)
-
-pub returns-else-place-self : need.returns-else-place-self
-returns-else-place-self c = search (needs, nth-past)
+pub returns : need.returns
+returns c = c .copied .ensures ∙ get-nth (c .args .self .now .records .now) (c .args .place) (c .get .result) (c .get .ensures .finds)

@@ -1,0 +1,4 @@
+// What is tried rather than proved: tables of cases over the public calls.
+
+#[cfg(test)]
+mod texts;
