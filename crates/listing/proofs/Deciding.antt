@@ -12,8 +12,10 @@ use Rattle.listing.specs.declared.Target.{Target}
 use Rattle.listing.specs.declared.Target.the-variants.{Node, False, True}
 use Rattle.listing.specs.declared.Record.{Record}
 use Rattle.listing.specs.Members.{In}
-use Rattle.listing.specs.Listing.{node, names, child, Within, Above, Rooted, Levelled, Next, Follows, Numbered, Targeted, Aims, Reached, Aimed, Listing, Before, Rises, Rising, Sorted, Tested, Normal}
+use Rattle.listing.specs.Listing.{node, names, child, Within, Above, Rooted, Levelled, Next, Follows, Numbered, Targeted, Aims, Reached, Aimed, Listing, Before, Rises, Rising, Sorted, Tested, Normal, value, Agree}
+use Rattle.listing.specs.Settings.{settings}
 use Rattle.listing.specs.Tests as test
+use Rattle.listing.proofs.Counting.{counted}
 use Rattle.listing.proofs.Walk.{names-node, names-eq}
 
 module _ {P Q : Type 0} (a b : Bool) (p : Decides a P) (q : Decides b Q) where
@@ -99,7 +101,7 @@ module _ (p : Record → Bool) (P : Record → Type 0) (d : (r : Record) → Dec
 named : (t : Target) (r : Record) → Decides (names t r) (node r ≡ t)
 named t r = ((λ e. sym (names-eq t r e)), (λ e. subst (λ u. names u r ≡ true) e (names-node r)))
 
-within : (rs : List Record) (t : Target) → Decides (test.within rs t) (Within rs t)
+pub within : (rs : List Record) (t : Target) → Decides (test.within rs t) (Within rs t)
 within rs (Node l k) = some (names (Node l k)) (λ r. node r ≡ Node l k) (named (Node l k)) rs
 within rs False = always
 within rs True = always
@@ -201,3 +203,19 @@ pub is-normal : (rs : List Record) → Decides (test.is-normal rs) (Normal rs)
 is-normal rs =
     instead (test.is-normal rs) (both (test.tested rs) (test.sorted rs) (tested rs) (sorted rs))
       (λ p. record { tested = p .0; sorted = p .1 }) (λ l. (l .tested, l .sorted))
+
+same-bit : (a b : Bool) → Decides (test.same-bit a b) (a ≡ b)
+same-bit true b = (sym, sym)
+same-bit false b = ((λ e. sym (not-true b e)), (λ e. not-from-false b (sym e)))
+
+agree-at : (ss : List (List Bool)) (xs : List Record) (t : Target) (ys : List Record) (u : Target) → Decides (test.agree-at ss xs t ys u) ((s : List Bool) → In s ss → value xs s t ≡ value ys s u)
+agree-at [] xs t ys u = ((λ e s m. absurd m), (λ h. refl))
+agree-at (s ∷ ss) xs t ys u =
+    instead (test.same-bit (value xs s t) (value ys s u) && test.agree-at ss xs t ys u)
+      (both (test.same-bit (value xs s t) (value ys s u)) (test.agree-at ss xs t ys u) (same-bit (value xs s t) (value ys s u)) (agree-at ss xs t ys u))
+      (λ h z m. ⊎-elim (λ e. subst⁻¹ (λ (v : List Bool). value xs v t ≡ value ys v u) e (h .0)) (h .1 z) m)
+      (λ f. (f s (inl refl), (λ z m. f z (inr m))))
+
+pub agrees : (n : ℕ) (xs : List Record) (t : Target) (ys : List Record) (u : Target) → Decides (test.agrees n xs t ys u) (Agree n xs t ys u)
+agrees n xs t ys u =
+    instead (test.agrees n xs t ys u) (agree-at (settings n) xs t ys u) (λ h s len. h s (counted n .every s len)) (λ h s m. h s (counted n .only s m))

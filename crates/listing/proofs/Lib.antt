@@ -9,4 +9,3 @@ pub mod Laws
 pub mod Bridge
 pub mod Counting
 pub mod Deciding
-pub mod Sampling

@@ -7,7 +7,8 @@ use lib.Dec.{eqb, ltb}
 use Rattle.listing.specs.declared.Target.{Target}
 use Rattle.listing.specs.declared.Target.the-variants.{Node, False, True}
 use Rattle.listing.specs.declared.Record.{Record}
-use Rattle.listing.specs.Listing.{node, names}
+use Rattle.listing.specs.Settings.{settings}
+use Rattle.listing.specs.Listing.{node, names, value}
 
 -- whether two targets are the same
 abbrev pub same-target : Target → Target → Bool
@@ -112,3 +113,15 @@ tested rs = every (λ r. not (same-target (r .low) (r .high))) rs
 -- whether records that keep the rules are normal
 abbrev pub is-normal : List Record → Bool
 is-normal rs = tested rs && sorted rs
+
+abbrev pub same-bit : Bool → Bool → Bool
+same-bit true b = b
+same-bit false b = not b
+
+-- whether t in xs and u in ys have the same value at each of some settings, and at all settings of n facts
+abbrev pub agree-at : List (List Bool) → List Record → Target → List Record → Target → Bool
+agree-at [] xs t ys u = true
+agree-at (s ∷ ss) xs t ys u = same-bit (value xs s t) (value ys s u) && agree-at ss xs t ys u
+
+abbrev pub agrees : ℕ → List Record → Target → List Record → Target → Bool
+agrees n xs t ys u = agree-at (settings n) xs t ys u

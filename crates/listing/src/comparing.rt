@@ -30,5 +30,16 @@ pub fn same_listing(left_root: Target, left: &[Record], right_root: Target, righ
     ensures canonical { λ r. ⌜ Canonical «left_root» (now (left .entry)) «right_root» (now (right .entry)) r ⌝ }
     ensures least { λ _. ⌜ Least «left_root» (now (left .entry)) ⌝ }
 {
-    left_root.same(right_root) && same_records(left, right)
+    let equal = left_root.same(right_root) && same_records(left, right);
+    canonical(left_root, left, right_root, right, equal)
+}
+
+// Carries the theorems of the normal form: `equal` tells whether the two listings are the same.
+fn canonical(left_root: Target, left: &[Record], right_root: Target, right: &[Record], equal: bool) -> bool
+    requires { ⌜ Decides equal ((«left_root» ≡ «right_root») × (now left ≡ now right)) ⌝ }
+    ensures equal { λ r. ⌜ r ≡ equal ⌝ }
+    ensures canonical { λ r. ⌜ Canonical «left_root» (now (left .entry)) «right_root» (now (right .entry)) r ⌝ }
+    ensures least { λ _. ⌜ Least «left_root» (now (left .entry)) ⌝ }
+{
+    equal
 }

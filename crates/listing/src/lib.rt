@@ -46,7 +46,7 @@ impl Target {
         ensures same { λ r. ⌜ Decides r (self ≡ other) ⌝ }
         ensures apart { λ r. ⌜ Told-apart self other r ⌝ }
     {
-        self == other
+        told_apart(self, other, self == other)
     }
 
     /// Whether this target is the record's node.
@@ -107,4 +107,13 @@ impl Record {
     {
         self.low.precedes(other.low) || self.low == other.low && self.high.precedes(other.high)
     }
+}
+
+// Carries the theorem that a normal listing has one target a value: `same` tells whether t and u are the same.
+fn told_apart(t: Target, u: Target, same: bool) -> bool
+    requires { ⌜ Decides same (t ≡ u) ⌝ }
+    ensures same { λ r. ⌜ r ≡ same ⌝ }
+    ensures apart { λ r. ⌜ Told-apart t u r ⌝ }
+{
+    same
 }

@@ -1,8 +1,9 @@
 // Facts and settings: how many of each there may be.
 
 ghost use mathlib.Core.Path.{_≡_};
-ghost use Prim.Native.Nat.{_^_, _≤_};
+ghost use Prim.Native.Nat.{_^_, _<_, _≤_};
 ghost use lib.ListN.{length};
+ghost use Rattle.std.specs.Numbers.{Checked};
 ghost use Rattle.std.specs.Options.{Cases as BySome};
 ghost use Rattle.std.specs.Orderings.{Decides};
 ghost use Rattle.listing.specs.Settings.{Facts, settings, Counted};
@@ -22,5 +23,15 @@ pub fn setting_count(n: u16) -> Option<u64>
     ensures count { λ r. ⌜ BySome r (2 ^ 64 ≤ length (settings n)) (λ c. c ≡ length (settings n)) ⌝ }
     ensures counted { λ _. ⌜ Counted n ⌝ }
 {
-    2u64.checked_pow(n as u32)
+    counted(n, 2u64.checked_pow(n as u32))
+}
+
+// Carries the theorem that n facts have 2 ^ n settings: `power` is 2 ^ n where that fits.
+fn counted(n: u16, power: Option<u64>) -> Option<u64>
+    requires { ⌜ Checked power (2 ^ n < 2 ^ 64) (2 ^ n) ⌝ }
+    ensures power { λ r. ⌜ r ≡ power ⌝ }
+    ensures count { λ r. ⌜ BySome r (2 ^ 64 ≤ length (settings n)) (λ c. c ≡ length (settings n)) ⌝ }
+    ensures counted { λ _. ⌜ Counted n ⌝ }
+{
+    power
 }

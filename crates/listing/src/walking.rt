@@ -15,7 +15,13 @@ use crate::Target;
 pub fn fact_of(setting: &[u8], level: u16) -> bool
     ensures { λ r. ⌜ r ≡ fact (map bit (now (setting .entry))) level ⌝ }
 {
-    let at = level as usize;
+    bit_at(setting, level as usize)
+}
+
+// Whether there is a byte at a place, and it is 1.
+fn bit_at(setting: &[u8], at: usize) -> bool
+    ensures { λ r. ⌜ r ≡ fact (map bit (now (setting .entry))) at ⌝ }
+{
     at < setting.len() && setting[at] == 1
 }
 
@@ -26,7 +32,15 @@ pub fn value_at(records: &[Record], root: Target, setting: &[u8]) -> bool
     ensures value { λ r. ⌜ r ≡ value (now (records .entry)) (map bit (now (setting .entry))) root ⌝ }
     ensures only { λ _. ⌜ Only-value root (now (records .entry)) (map bit (now (setting .entry))) ⌝ }
 {
-    let mut target = root;
+    walk_from(root, records, setting)
+}
+
+// Whether the walk from `start` ends in True; carries the theorem that nothing else obeys the laws of a value.
+fn walk_from(start: Target, records: &[Record], setting: &[u8]) -> bool
+    ensures value { λ r. ⌜ r ≡ value (now (records .entry)) (map bit (now (setting .entry))) start ⌝ }
+    ensures only { λ _. ⌜ Only-value start (now (records .entry)) (map bit (now (setting .entry))) ⌝ }
+{
+    let mut target = start;
     for r in records {
         if target.names(*r) {
             target = r.child(fact_of(setting, r.level));

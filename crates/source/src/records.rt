@@ -1,5 +1,8 @@
 // A source over records in the caller's slice.
 
+ghost use mathlib.Core.Path.{_≡_};
+ghost use Rattle.std.specs.shelf.Maps.{nth};
+
 use crate::Source;
 use listing::Record;
 use listing::Target;
@@ -32,6 +35,13 @@ pub impl<'a> Source for Records<'a> as RecordsSource {
     }
 
     fn record(&self, place: usize) -> Option<Record> {
-        self.records.get(place).copied()
+        record_at(self.records, place)
     }
+}
+
+// The element at a place.
+fn record_at(records: &[Record], place: usize) -> Option<Record>
+    ensures { λ r. ⌜ r ≡ nth (now (records .entry)) place ⌝ }
+{
+    records.get(place).copied()
 }

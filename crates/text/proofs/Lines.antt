@@ -37,23 +37,23 @@ module _ (bs : List ℕ) (at k n : ℕ) (left : n ≡ 0) where
   pub feed-no : (getD bs at 0 ≡ 10 → ⊥) → Some (k + 1) ≡ line-fault n k (drop at bs)
   feed-no e = rw left (let f : getD (drop at bs) 0 0 ≡ 10 → ⊥ = λ h. e (ap (λ j. getD bs j 0) (sym (add-zero at)) ∙ sym (getD-drop at bs 0 0) ∙ h) in sym (cond-false _ _ _ (ne-eqb _ _ f)))
 
-pub length-lines-of : (m n : ℕ) (bs : List ℕ) → length (lines-of m n bs) ≡ m
-length-lines-of zero n bs = refl
-length-lines-of (suc m) n bs = ap suc (length-lines-of m n (drop 31 bs))
+pub length-lines : (m n : ℕ) (bs : List ℕ) → length (lines-of m n bs) ≡ m
+length-lines zero n bs = refl
+length-lines (suc m) n bs = ap suc (length-lines m n (drop 31 bs))
 
-pub nth-lines-of : (m n : ℕ) (bs : List ℕ) (i : ℕ) → i < m → nth (lines-of m n bs) i ≡ Some (record-of n (drop (31 * i) bs))
-nth-lines-of zero n bs i h = absurd (omega arith)
-nth-lines-of (suc m) n bs zero h = refl
-nth-lines-of (suc m) n bs (suc i) h =
+pub nth-lines : (m n : ℕ) (bs : List ℕ) (i : ℕ) → i < m → nth (lines-of m n bs) i ≡ Some (record-of n (drop (31 * i) bs))
+nth-lines zero n bs i h = absurd (omega arith)
+nth-lines (suc m) n bs zero h = refl
+nth-lines (suc m) n bs (suc i) h =
     let e : 31 + 31 * i ≡ 31 * suc i = omega arith in
-    nth-lines-of m n (drop 31 bs) i (omega arith) ∙ ap (λ ys. Some (record-of n ys)) (drop-drop (31 * i) 31 bs ∙ ap (λ j. drop j bs) e)
+    nth-lines m n (drop 31 bs) i (omega arith) ∙ ap (λ ys. Some (record-of n ys)) (drop-drop (31 * i) 31 bs ∙ ap (λ j. drop j bs) e)
 
 -- line `i` of the lines after the header
 pub nth-line : (m n : ℕ) (bs : List ℕ) (i : ℕ) → i < m → Some (record-of n (take (length bs - (21 + 31 * i)) (drop (21 + 31 * i) bs))) ≡ nth (lines-of m n (drop 21 bs)) i
-nth-line m n bs i h = sym (nth-lines-of m n (drop 21 bs) i h ∙ ap (λ ys. Some (record-of n ys)) (drop-drop (31 * i) 21 bs ∙ sym (take-rest bs (21 + 31 * i))))
+nth-line m n bs i h = sym (nth-lines m n (drop 21 bs) i h ∙ ap (λ ys. Some (record-of n ys)) (drop-drop (31 * i) 21 bs ∙ sym (take-rest bs (21 + 31 * i))))
 
 pub no-line : (m n : ℕ) (bs : List ℕ) (i : ℕ) → m ≤ i → None ≡ nth (lines-of m n bs) i
-no-line m n bs i h = sym (nth-past _ i (rw (length-lines-of m n bs) h))
+no-line m n bs i h = sym (nth-past _ i (rw (length-lines m n bs) h))
 
 module _ (bs : List ℕ) (i m n : ℕ) (left : n ≡ suc m) where
   pub lines-some : (c : ℕ) → Some c ≡ line-fault 6 0 (take (length bs - (21 + 31 * i)) (drop (21 + 31 * i) bs)) → Some (Column (i + 1) c) ≡ lines-fault n (i + 1) (drop (21 + 31 * i) bs)
@@ -71,17 +71,8 @@ module _ (bs : List ℕ) where
   pub text-short : length bs < 21 → text-fault bs ≡ Some Length
   text-short h = cond-true _ _ _ (lt-ltb (length bs) 21 h)
 
-  text-long : 21 ≤ length bs → text-fault bs ≡ at-line (line-fault 4 0 bs) 0 (body-fault bs)
+  pub text-long : 21 ≤ length bs → text-fault bs ≡ at-line (line-fault 4 0 bs) 0 (body-fault bs)
   text-long h = cond-false _ _ _ (le-ltb (length bs) 21 h)
-
-  pub text-header : (c : ℕ) → 21 ≤ length bs → Some c ≡ line-fault 4 0 bs → text-fault bs ≡ Some (Column 0 c)
-  text-header c h e = text-long h ∙ ap (λ o. at-line o 0 (body-fault bs)) (sym e)
-
-  pub text-body : 21 ≤ length bs → None ≡ line-fault 4 0 bs → text-fault bs ≡ body-fault bs
-  text-body h e = text-long h ∙ ap (λ o. at-line o 0 (body-fault bs)) (sym e)
-
-  pub body-length : (n : ℕ) → n ≡ value-at bs 4 6 → (length bs ≡ 21 + 31 * n → ⊥) → body-fault bs ≡ Some Length
-  body-length n e h = cond-false _ _ _ (ne-eqb _ _ (λ l. h (l ∙ ap (λ k. 21 + 31 * k) (sym e))))
 
   pub body-lines : (n : ℕ) → n ≡ value-at bs 4 6 → length bs ≡ 21 + 31 * n → body-fault bs ≡ lines-fault n 1 (drop 21 bs)
   body-lines n e h = cond-true _ _ _ (eq-eqb _ _ (h ∙ ap (λ k. 21 + 31 * k) e)) ∙ ap (λ k. lines-fault k 1 (drop 21 bs)) (sym e)

@@ -66,6 +66,6 @@ numeral-end bs w i h l = let k : length (take w bs) ≤ i = rw (length-take-le w
 pub pow-pos-10 : (i : ℕ) → 0 < 10 ^ i
 pow-pos-10 i = pow-le-pow-right {n = 10} (lit< tt) {i = 0} {j = i} (omega arith)
 
-pub below-wider : (o : Option ℕ) (a b : ℕ) → a ≤ b → Cases o (Unit {0}) (λ v. v < 10 ^ a) → Cases o (Unit {0}) (λ v. v < 10 ^ b)
-below-wider None a b h p = p
+pub below-wider : (o : Option ℕ) (a b : ℕ) → a ≤ b → Cases o (0 < 10 ^ a) (λ v. v < 10 ^ a) → Cases o (0 < 10 ^ b) (λ v. v < 10 ^ b)
+below-wider None a b h p = pow-pos-10 b
 below-wider (Some v) a b h p = omega (arith, pow-le-pow-right {n = 10} (lit< tt) h)

@@ -2,7 +2,7 @@
 // `columns` reads one column, `opening` checks a whole text and shows it as a source, `faults` says what a
 // text that is not well formed is refused with.
 
-pub mod columns;
+mod columns;
 pub mod faults;
 pub mod opening;
 pub mod summary;

@@ -5,11 +5,13 @@ ghost use mathlib.Core.Path.{_≡_};
 ghost use Prim.Native.Nat.{_+_, _-_, _*_, _/_, _%_, _<_, _≤_};
 ghost use lib.ListN.{length, drop};
 ghost use Rattle.std.specs.Results.{Cases as ByOk};
-ghost use Rattle.std.specs.declared.option.Option.the-variants.{Some};
-ghost use Rattle.text.specs.Layout.{width, line-fault, target-of, record-of, lines-fault, text-fault};
+ghost use Rattle.std.specs.Options.{Cases as BySome};
+ghost use Rattle.std.specs.declared.option.Option.the-variants.{Some, None};
+ghost use Rattle.std.specs.shelf.Maps.{nth};
+ghost use Rattle.text.specs.Layout.{width, line-fault, at-line, target-of, record-of, lines-fault, body-fault, text-fault};
 ghost use Rattle.text.specs.Opened.{listed-of, Opened};
 
-use crate::columns::column;
+use crate::columns::column_at;
 use crate::columns::value_at;
 use crate::faults::TextFault;
 use listing::Record;
@@ -50,7 +52,7 @@ fn line_fault(bytes: &[u8], columns: usize) -> Option<u32>
     let mut at = 0;
     for k in 0..columns {
         let width = width_of(k);
-        let Some(_) = column(&bytes[at..], width) else {
+        let Some(_) = column_at(bytes, at, width) else {
             return Some(k as u32 + 1);
         };
         at += width;
@@ -105,6 +107,52 @@ fn record_of(n: u16, bytes: &[u8]) -> Record
     }
 }
 
+// The first fault behind a header that is well formed: the length has to fit N, then each line is tested.
+fn body_fault(bytes: &[u8]) -> Option<TextFault>
+    requires { ⌜ 21 ≤ length (now bytes) ⌝ }
+    ensures { λ r. ⌜ r ≡ body-fault (now (bytes .entry)) ⌝ }
+{
+    let count = value_at(bytes, 4, 6);
+    if bytes.len() != HEADER + LINE * count as usize {
+        return Some(TextFault::Length);
+    }
+    lines_fault(bytes, count)
+}
+
+// The first fault of a text; where there is none, a header is there.
+fn first_fault(bytes: &[u8]) -> Option<TextFault>
+    ensures fault { λ r. ⌜ r ≡ text-fault (now (bytes .entry)) ⌝ }
+    ensures long { λ r. ⌜ BySome r (21 ≤ length (now (bytes .entry))) (λ _. Unit {0}) ⌝ }
+{
+    if bytes.len() < HEADER {
+        return Some(TextFault::Length);
+    }
+    header_fault(bytes)
+}
+
+// The first fault of a text that is long enough for a header.
+fn header_fault(bytes: &[u8]) -> Option<TextFault>
+    requires { ⌜ 21 ≤ length (now bytes) ⌝ }
+    ensures { λ r. ⌜ r ≡ at-line (line-fault 4 0 (now (bytes .entry))) 0 (body-fault (now (bytes .entry))) ⌝ }
+{
+    match line_fault(bytes, 4) {
+        Some(column) => Some(TextFault::Column { line: 0, column }),
+        None => body_fault(bytes),
+    }
+}
+
+// The text of bytes without a fault.
+fn text_of<'a>(bytes: &'a [u8]) -> Text<'a>
+    requires long { ⌜ 21 ≤ length (now bytes) ⌝ }
+    requires faultless { ⌜ text-fault (now bytes) ≡ None ⌝ }
+    ensures { λ t. ⌜ Opened (now (bytes .entry)) t ⌝ }
+{
+    let n = value_at(bytes, 0, 4) as u16;
+    let root_level = value_at(bytes, 10, 4) as u16;
+    let root_number = value_at(bytes, 14, 6);
+    Text { bytes, n, root: target_of(n, root_level, root_number) }
+}
+
 impl<'a> Text<'a> {
     /// Opens a text, or tells its first fault: under 21 bytes; then the header's columns; then the length,
     /// 21 + 31 × N; then the columns of each line. Where it opens, every column of every line is well formed,
@@ -112,23 +160,10 @@ impl<'a> Text<'a> {
     pub fn open(bytes: &'a [u8]) -> Result<Text<'a>, TextFault>
         ensures { λ r. ⌜ ByOk r (λ t. Opened (now (bytes .entry)) t) (λ f. text-fault (now (bytes .entry)) ≡ Some f) ⌝ }
     {
-        if bytes.len() < HEADER {
-            return Err(TextFault::Length);
+        match first_fault(bytes) {
+            Some(fault) => Err(fault),
+            None => Ok(text_of(bytes)),
         }
-        if let Some(column) = line_fault(bytes, 4) {
-            return Err(TextFault::Column { line: 0, column });
-        }
-        let count = value_at(bytes, 4, 6);
-        if bytes.len() != HEADER + LINE * count as usize {
-            return Err(TextFault::Length);
-        }
-        if let Some(fault) = lines_fault(bytes, count) {
-            return Err(fault);
-        }
-        let n = value_at(bytes, 0, 4) as u16;
-        let root_level = value_at(bytes, 10, 4) as u16;
-        let root_number = value_at(bytes, 14, 6);
-        Ok(Text { bytes, n, root: target_of(n, root_level, root_number) })
     }
 
     // How many whole lines lie behind the header.
@@ -155,15 +190,28 @@ pub impl<'a> Source for Text<'a> as TextSource {
     }
 
     fn count(&self) -> usize {
-        self.lines()
+        count_of(self)
     }
 
     fn record(&self, place: usize) -> Option<Record> {
-        if place < self.lines() {
-            let start = HEADER + LINE * place;
-            Some(record_of(self.n, &self.bytes[start..]))
-        } else {
-            None
-        }
+        record_at(self, place)
     }
+}
+
+// The record on the line at a place, if the text has that many whole lines.
+fn record_at(text: &Text<'_>, place: usize) -> Option<Record>
+    ensures { λ r. ⌜ r ≡ nth (listed-of (now (text .entry))) place ⌝ }
+{
+    if place >= text.lines() {
+        return None;
+    }
+    let start = HEADER + LINE * place;
+    Some(record_of(text.n, &text.bytes[start..]))
+}
+
+// How many records the text has.
+fn count_of(text: &Text<'_>) -> usize
+    ensures { λ r. ⌜ r ≡ length (listed-of (now (text .entry))) ⌝ }
+{
+    text.lines()
 }

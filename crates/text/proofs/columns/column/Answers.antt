@@ -15,7 +15,7 @@ returns-then-i-width c = record {
 pub returns-else-i-width : need.returns-else-i-width
 returns-else-i-width c = record {
     value = zero-led (c .args .bytes .now) (c .args .width) (c .loop-i .i + 1) (omega arith) (omega arith) ∙ numeral-zero (c .args .bytes .now) (c .args .width) (c .loop-i .i) (omega arith) (omega arith) (omega arith) ∙ c .loop-i .inv;
-    below = tt }
+    below = pow-pos-10 (c .args .width) }
 
 pub returns-then-bytes-i-ne32 : need.returns-then-bytes-i-ne32
 returns-then-bytes-i-ne32 c = record {
@@ -26,4 +26,4 @@ pub loop-i-again : need.loop-i-again
 loop-i-again c = numeral-space (c .args .bytes .now) (c .args .width) (c .loop-i .i) (omega arith) (omega arith) (omega arith) ∙ c .loop-i .inv
 
 pub returns : need.returns
-returns c = record { value = numeral-end (c .args .bytes .now) (c .args .width) (c .loop-i .i) (omega arith) (omega arith) ∙ c .loop-i .inv; below = tt }
+returns c = record { value = numeral-end (c .args .bytes .now) (c .args .width) (c .loop-i .i) (omega arith) (omega arith) ∙ c .loop-i .inv; below = pow-pos-10 (c .args .width) }

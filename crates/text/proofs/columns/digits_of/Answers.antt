@@ -3,11 +3,11 @@ use Prim.Native.Nat.{_≤_, _-_}
 use mathlib.Core.Logic.{_⊎_, inl, inr, ⊎-elim}
 use native.Mathlib.Omega.{arith}
 use lib.ListN.{length, getD}
-use Rattle.text.proofs.Numbers.{digits-yes, digits-no, digits-end, value-below, pow-8}
+use Rattle.text.proofs.Numbers.{digits-yes, digits-no, digits-end, value-below, pow-8, pow-pos-10}
 use Rattle.text.proofs.columns.digits_of.Needs as need
 
 pub returns-then-d-lt48 : need.returns-then-d-lt48
-returns-then-d-lt48 c = record { value = digits-no (c .args .text .now) (c .loop-b .b-index) (c .loop-b .value) (omega arith) (⊎-elim inl (λ h. inr (h .1)) (c .then-d-lt48 .either)) ∙ c .loop-b .inv .0; below = tt }
+returns-then-d-lt48 c = record { value = digits-no (c .args .text .now) (c .loop-b .b-index) (c .loop-b .value) (omega arith) (⊎-elim inl (λ h. inr (h .1)) (c .then-d-lt48 .either)) ∙ c .loop-b .inv .0; below = pow-pos-10 (length (c .args .text .now)) }
 
 pub mul-value : need.mul-value
 mul-value c = omega (arith, pow-8 (c .loop-b .b-index) (omega arith))

@@ -2,19 +2,19 @@ use mathlib.Core.Path.{_≡_, sym, ap, _∙_}
 use native.Mathlib.Omega.{arith}
 use Prim.Native.Nat.{_+_, _-_}
 use Rattle.std.specs.declared.option.Option.the-variants.{Some}
-use Rattle.text.proofs.Lines.{column-rest, line-some, line-none, feed-yes, feed-no}
+use Rattle.text.proofs.Lines.{line-some, line-none, feed-yes, feed-no}
 use Rattle.text.proofs.opening.line_fault.Needs as need
 
 pub returns-in-rest : need.returns-in-rest
 returns-in-rest c =
     line-none (c .args .bytes .now) (c .loop-k .at) (c .loop-k .k) (c .args .columns - (c .loop-k .k + 1)) (c .args .columns - c .loop-k .k) (c .width-of-width .result) (omega arith) (c .width-of-width .ensures .width)
-        (c .in-rest .ensures tt .value ∙ column-rest (c .args .bytes .now) (c .loop-k .at) (c .width-of-width .result))
+        (c .in-rest .ensures tt .value)
     ∙ c .loop-k .inv .0
 
 pub loop-k-again : need.loop-k-again
 loop-k-again c =
     (line-some (c .args .bytes .now) (c .loop-k .at) (c .loop-k .k) (c .args .columns - (c .loop-k .k + 1)) (c .args .columns - c .loop-k .k) (c .width-of-width .result) (omega arith) (c .width-of-width .ensures .width)
-        (c .in-Some .field-0) (c .in-Some .ensures tt .value ∙ column-rest (c .args .bytes .now) (c .loop-k .at) (c .width-of-width .result))
+        (c .in-Some .field-0) (c .in-Some .ensures tt .value)
     ∙ c .loop-k .inv .0,
     omega (arith, c .width-of-width .ensures .next))
 

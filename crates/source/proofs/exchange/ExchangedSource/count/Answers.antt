@@ -1,6 +1,0 @@
-use mathlib.Core.Path.{sym, _∙_}
-use lib.ListN.{length-map}
-use Rattle.source.proofs.exchange.ExchangedSource.count.Needs as need
-
-pub returns : need.returns
-returns g c = c .count .ensures ∙ sym (length-map _ _)
