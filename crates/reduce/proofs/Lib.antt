@@ -1,0 +1,11 @@
+pub mod Inner
+pub mod Meets
+pub mod Extend
+pub mod Rowed
+pub mod Level
+pub mod Ranking
+pub mod Looping
+pub mod Settling
+pub mod Reducing
+pub mod Compacting
+pub mod Renaming

@@ -1,0 +1,7 @@
+// From rows to the normal form: work rows, the rule check, reduction, and the core of loading a listing.
+
+mod arrange;
+pub mod reduce_rows;
+pub mod row;
+mod settle;
+mod starts;
