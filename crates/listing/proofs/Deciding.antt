@@ -42,10 +42,10 @@ whenever a b p q =
 pub instead : {P Q : Type 0} (a : Bool) → Decides a P → (P → Q) → (Q → P) → Decides a Q
 instead a p f g = ((λ e. f (p .0 e)), (λ h. p .1 (g h)))
 
-equal-numbers : (m n : ℕ) → Decides (eqb m n) (m ≡ n)
+pub equal-numbers : (m n : ℕ) → Decides (eqb m n) (m ≡ n)
 equal-numbers m n = (eqb-true m n, eq-eqb m n)
 
-less : (m n : ℕ) → Decides (ltb m n) (m < n)
+pub less : (m n : ℕ) → Decides (ltb m n) (m < n)
 less m n = (ltb-true m n, lt-ltb m n)
 
 always : Decides true (Unit {0})
@@ -118,7 +118,7 @@ rooted t (r ∷ rs) = same-target t (node r)
 levelled : (n : ℕ) (rs : List Record) → Decides (test.levelled n rs) (Levelled n rs)
 levelled n rs = every (λ r. ltb (r .level) n) (λ r. r .level < n) (λ r. less (r .level) n) rs
 
-next : (p r : Record) → Decides (test.next p r) (Next p r)
+pub next : (p r : Record) → Decides (test.next p r) (Next p r)
 next p r =
     either (eqb (r .level) (p .level) && eqb (r .number) (p .number + 1)) (ltb (p .level) (r .level) && eqb (r .number) 0)
       (both (eqb (r .level) (p .level)) (eqb (r .number) (p .number + 1)) (equal-numbers (r .level) (p .level)) (equal-numbers (r .number) (p .number + 1)))
@@ -132,7 +132,7 @@ numbered : (rs : List Record) → Decides (test.numbered rs) (Numbered rs)
 numbered [] = always
 numbered (r ∷ rs) = both (eqb (r .number) 0) (test.follows r rs) (equal-numbers (r .number) 0) (follows r rs)
 
-target : (rs : List Record) (l : ℕ) (t : Target) → Decides (test.target rs l t) (Within rs t × Above l t)
+pub target : (rs : List Record) (l : ℕ) (t : Target) → Decides (test.target rs l t) (Within rs t × Above l t)
 target rs l t = both (test.within rs t) (test.above l t) (within rs t) (above l t)
 
 targets : (rs : List Record) (r : Record) → Decides (test.target rs (r .level) (r .low) && test.target rs (r .level) (r .high)) ((b : Bool) → Within rs (child b r) × Above (r .level) (child b r))
@@ -149,7 +149,7 @@ targeted : (rs : List Record) → Decides (test.targeted rs) (Targeted rs)
 targeted rs =
     every (λ r. test.target rs (r .level) (r .low) && test.target rs (r .level) (r .high)) (λ r. (b : Bool) → Within rs (child b r) × Above (r .level) (child b r)) (targets rs) rs
 
-aims : (p r : Record) → Decides (test.aims p r) (Aims p r)
+pub aims : (p r : Record) → Decides (test.aims p r) (Aims p r)
 aims p r = either (test.same-target (p .low) (node r)) (test.same-target (p .high) (node r)) (same-target (p .low) (node r)) (same-target (p .high) (node r))
 
 reached : (before rs : List Record) → Decides (test.reached before rs) (Reached before rs)

@@ -9,3 +9,5 @@ pub mod Settling
 pub mod Reducing
 pub mod Compacting
 pub mod Renaming
+pub mod Breaking
+pub mod Finding

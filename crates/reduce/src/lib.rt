@@ -1,7 +1,10 @@
 // From rows to the normal form: work rows, the rule check, reduction, and the core of loading a listing.
 
 mod arrange;
+pub mod faults;
+mod places;
 pub mod reduce_rows;
 pub mod row;
+mod rules;
 mod settle;
 mod starts;
