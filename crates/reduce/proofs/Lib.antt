@@ -11,3 +11,4 @@ pub mod Compacting
 pub mod Renaming
 pub mod Breaking
 pub mod Finding
+pub mod Marking

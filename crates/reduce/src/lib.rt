@@ -2,6 +2,7 @@
 
 mod arrange;
 pub mod faults;
+mod marks;
 mod places;
 pub mod reduce_rows;
 pub mod row;
