@@ -12,3 +12,4 @@ pub mod Renaming
 pub mod Breaking
 pub mod Finding
 pub mod Marking
+pub mod Aiming

@@ -1,6 +1,7 @@
 // From rows to the normal form: work rows, the rule check, reduction, and the core of loading a listing.
 
 mod arrange;
+pub mod checking;
 pub mod faults;
 mod marks;
 mod places;

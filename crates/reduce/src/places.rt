@@ -81,7 +81,8 @@ pub fn target_break<S: Source>(source: &S, rows: &mut [Row]) -> Option<usize>
     requires numbered { ⌜ Numbered (listed (now source)) ⌝ }
     requires few { ⌜ length (listed (now source)) < 2 ^ 32 ⌝ }
     requires each { ⌜ length (now rows) ≡ length (listed (now source)) ⌝ }
-    ensures { λ r. ⌜ BySome r (Targeted (listed (now (source .entry))) × (now (rows .exit) ≡ map (placed-row (listed (now (source .entry)))) (listed (now (source .entry))))) (First (Mistargeted (listed (now (source .entry))))) ⌝ }
+    ensures breaks { λ r. ⌜ BySome r (Targeted (listed (now (source .entry))) × (now (rows .exit) ≡ map (placed-row (listed (now (source .entry)))) (listed (now (source .entry))))) (First (Mistargeted (listed (now (source .entry))))) ⌝ }
+    ensures below { λ r. ⌜ BySome r (Unit {0}) (λ p. p < length (listed (now (source .entry)))) ⌝ }
 {
     for place in 0..rows.len() {
         let Some(r) = source.record(place) else {

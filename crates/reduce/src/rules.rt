@@ -1,6 +1,8 @@
 // The first three rules of a listing, over any source: the root, the levels, the numbers. One pass each.
 
 ghost use mathlib.Core.Path.{_≡_};
+ghost use Prim.Native.Nat.{_<_};
+ghost use lib.ListN.{length};
 ghost use Rattle.std.specs.Options.{Cases as BySome};
 ghost use Rattle.std.specs.Orderings.{Decides};
 ghost use Rattle.listing.specs.Listing.{Rooted, Levelled, Next, Numbered};
@@ -33,7 +35,8 @@ pub fn is_rooted<S: Source>(source: &S) -> bool
 
 // The first place whose record has a level that is not below n.
 pub fn level_break<S: Source>(source: &S) -> Option<usize>
-    ensures { λ r. ⌜ BySome r (Levelled (facts (now (source .entry))) (listed (now (source .entry)))) (First (Too-high (facts (now (source .entry))) (listed (now (source .entry))))) ⌝ }
+    ensures breaks { λ r. ⌜ BySome r (Levelled (facts (now (source .entry))) (listed (now (source .entry)))) (First (Too-high (facts (now (source .entry))) (listed (now (source .entry))))) ⌝ }
+    ensures below { λ r. ⌜ BySome r (Unit {0}) (λ p. p < length (listed (now (source .entry)))) ⌝ }
 {
     let n = source.n();
     for place in 0..source.count() {
@@ -75,7 +78,8 @@ fn is_misnumbered<S: Source>(source: &S, place: usize) -> bool
 
 // The first place whose record has another number than its predecessor asks.
 pub fn number_break<S: Source>(source: &S) -> Option<usize>
-    ensures { λ r. ⌜ BySome r (Numbered (listed (now (source .entry)))) (First (Misnumbered (listed (now (source .entry))))) ⌝ }
+    ensures breaks { λ r. ⌜ BySome r (Numbered (listed (now (source .entry)))) (First (Misnumbered (listed (now (source .entry))))) ⌝ }
+    ensures below { λ r. ⌜ BySome r (Unit {0}) (λ p. p < length (listed (now (source .entry)))) ⌝ }
 {
     for place in 0..source.count() {
         if is_misnumbered(source, place) {

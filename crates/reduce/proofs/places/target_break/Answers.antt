@@ -15,7 +15,7 @@ returns-in-rest g c = absurd (nth-within (g .S·Source .listed (c .args .source 
 
 pub returns-in-rest-row-of : need.returns-in-rest-row-of
 returns-in-rest-row-of g c =
-    (targets-broken (g .S·Source .listed (c .args .source .now)) (c .loop-place .place) (c .in-Some .r) (c .in-Some .ensures tt) (c .in-rest-row-of .ensures tt), c .loop-place .inv .0)
+    record { breaks = (targets-broken (g .S·Source .listed (c .args .source .now)) (c .loop-place .place) (c .in-Some .r) (c .in-Some .ensures tt) (c .in-rest-row-of .ensures tt), c .loop-place .inv .0); below = omega arith }
 
 pub loop-place-again : need.loop-place-again
 loop-place-again g c =
@@ -25,6 +25,6 @@ loop-place-again g c =
 
 pub returns : need.returns
 returns g c =
-    (targeted-from (g .S·Source .listed (c .args .source .now)) (c .loop-place .place) (omega arith) (c .loop-place .inv .0),
+    record { breaks = (targeted-from (g .S·Source .listed (c .args .source .now)) (c .loop-place .place) (omega arith) (c .loop-place .inv .0),
      sym (take-all (c .loop-place .place) (c .loop-place .rows) (omega arith)) ∙ c .loop-place .inv .1 ∙
-     ap (map (placed-row (g .S·Source .listed (c .args .source .now)))) (take-all (c .loop-place .place) (g .S·Source .listed (c .args .source .now)) (omega arith)))
+     ap (map (placed-row (g .S·Source .listed (c .args .source .now)))) (take-all (c .loop-place .place) (g .S·Source .listed (c .args .source .now)) (omega arith))); below = tt }

@@ -13,4 +13,4 @@ loop-place-again g c =
       (too-high-not (g .S·Source .facts (c .args .source .now)) (g .S·Source .listed (c .args .source .now)) (c .loop-place .place) (c .in-Some .r) (c .in-Some .ensures tt) (omega arith))
 
 pub returns : need.returns
-returns g c = levelled-from (g .S·Source .facts (c .args .source .now)) (g .S·Source .listed (c .args .source .now)) (c .loop-place .place) (omega arith) (c .loop-place .inv)
+returns g c = record { breaks = levelled-from (g .S·Source .facts (c .args .source .now)) (g .S·Source .listed (c .args .source .now)) (c .loop-place .place) (omega arith) (c .loop-place .inv); below = tt }
