@@ -13,3 +13,4 @@ pub mod Breaking
 pub mod Finding
 pub mod Marking
 pub mod Aiming
+pub mod Loads

@@ -49,7 +49,6 @@ fn unaimed_place<S: Source>(source: &S, rows: &mut [Row]) -> Option<usize>
     ensures below { λ r. ⌜ BySome r (Unit {0}) (λ p. p < length (listed (now (source .entry)))) ⌝ }
     ensures rows { λ _. ⌜ given 0 (now (rows .exit)) ≡ place-records (listed (now (source .entry))) 0 (listed (now (source .entry))) ⌝ }
 {
-    let _ = source;
     aim_break(rows)
 }
 

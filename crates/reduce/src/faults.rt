@@ -1,6 +1,7 @@
 // What keeps a source from being loaded.
 
 ghost use mathlib.Core.Path.{_≡_};
+ghost use Rattle.reduce.specs.declared.faults.LoadFault.the-variants.{Rule as OfRule};
 ghost use Rattle.reduce.specs.Faults.{rule-number, told};
 
 use listing::reports::Report;
@@ -35,6 +36,14 @@ pub enum LoadFault {
     Rule(Break),
     /// The normal listing does not fit the record space.
     Space,
+}
+
+pub impl From<Break> for LoadFault as LoadFromBreak {
+    ghost converts = { λ x y. y ≡ OfRule x };
+
+    fn from(value: Break) -> LoadFault {
+        LoadFault::Rule(value)
+    }
 }
 
 impl Rule {

@@ -3,6 +3,7 @@
 mod arrange;
 pub mod checking;
 pub mod faults;
+pub mod loading;
 mod marks;
 mod places;
 pub mod reduce_rows;

@@ -1,10 +1,11 @@
 ghost use mathlib.Core.Path.{_≡_};
 ghost use mathlib.Core.Bool.{_&&_};
 ghost use Rattle.std.specs.Options.{SomeBy};
-ghost use Rattle.reduce.specs.Rows.{same-target, like, fresh, outcome};
+ghost use Rattle.reduce.specs.Rows.{entry-of, same-target, like, fresh, outcome};
 ghost use Rattle.reduce.specs.Ranks.{rank-target, rank-row};
 
 use std::cmp::Ordering;
+use listing::Record;
 use listing::Target;
 use listing::TargetEq;
 use listing::TargetOrd;
@@ -25,6 +26,15 @@ pub struct Row {
 }
 
 pub const ZERO: Row = Row { low: Target::False, high: Target::False, level: 0, number: 0, own: 0, first: false, image: Target::False };
+
+impl Row {
+    // The record that this row describes.
+    pub fn record(self) -> Record
+        ensures { λ r. ⌜ r ≡ entry-of self ⌝ }
+    {
+        Record { level: self.level, number: self.number, low: self.low, high: self.high }
+    }
+}
 
 pub fn same_target(a: Target, b: Target) -> bool
     ensures { λ r. ⌜ r ≡ same-target a b ⌝ }

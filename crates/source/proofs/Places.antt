@@ -1,9 +1,9 @@
 -- Lists by their places.
 use mathlib.Core.Path.{_≡_, refl, sym, ap, _∙_}
-use mathlib.Core.List.{List, [], _∷_, map}
+use mathlib.Core.List.{List, [], _∷_, _++_, map}
 use Prim.Native.Nat.{ℕ, zero, suc, _+_, _<_}
 use native.Mathlib.Omega.{arith}
-use lib.ListN.{length, drop}
+use lib.ListN.{length, take, drop, set}
 use Rattle.std.specs.shelf.Maps.{nth}
 use denote.Ref.{RefT, now}
 use Rattle.std.specs.Options.{mapped}
@@ -36,3 +36,12 @@ nth-within (x ∷ xs) (suc i) h e = nth-within xs i (omega arith) e
 pub get-nth : {X : Type 0} (xs : List X) (i : ℕ) (r : Option (RefT X)) → Item xs i i r → mapped now r ≡ nth xs i
 get-nth xs i None h = sym (nth-past xs i (h .3))
 get-nth xs i (Some x) h = sym (nth-read xs (length xs) i (x .now) refl (h .3 .0) (h .1))
+
+-- one element more copied to the front
+pub front-more : {X Y : Type 0} (f : X → Y) (xs : List X) (ys : List Y) (i : ℕ) (x : X) → Some x ≡ nth xs i → i < length ys → set (map f (take i xs) ++ drop i ys) i (f x) ≡ map f (take (i + 1) xs) ++ drop (i + 1) ys
+front-more f [] ys i x e h = let z : _≡_ {A = ℕ} 0 1 = cc in absurd (omega arith)
+front-more f (q ∷ xs) [] i x e h = absurd (omega arith)
+front-more f (q ∷ xs) (y ∷ ys) zero x e h = let d : x ≡ q = cc in ap (λ z. f z ∷ ys) d
+front-more f (q ∷ xs) (y ∷ ys) (suc i) x e h =
+    let j : suc i + 1 ≡ suc (i + 1) = omega arith in
+    rw j (ap (λ zs. f q ∷ zs) (front-more f xs ys i x e (omega arith)))
