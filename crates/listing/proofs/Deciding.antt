@@ -14,6 +14,7 @@ use Rattle.listing.specs.declared.Record.{Record}
 use Rattle.listing.specs.Members.{In}
 use Rattle.listing.specs.Listing.{node, names, child, Within, Above, Rooted, Levelled, Next, Follows, Numbered, Targeted, Aims, Reached, Aimed, Listing, Before, Rises, Rising, Sorted, Tested, Normal, value, Agree}
 use Rattle.listing.specs.Settings.{settings}
+use Rattle.listing.specs.Meaning.{Decided}
 use Rattle.listing.specs.Tests as test
 use Rattle.listing.proofs.Counting.{counted}
 use Rattle.listing.proofs.Walk.{names-node, names-eq}
@@ -219,3 +220,6 @@ agree-at (s ∷ ss) xs t ys u =
 pub agrees : (n : ℕ) (xs : List Record) (t : Target) (ys : List Record) (u : Target) → Decides (test.agrees n xs t ys u) (Agree n xs t ys u)
 agrees n xs t ys u =
     instead (test.agrees n xs t ys u) (agree-at (settings n) xs t ys u) (λ h s len. h s (counted n .every s len)) (λ h s m. h s (counted n .only s m))
+
+pub decided : (root : Target) (rs : List Record) (n : ℕ) → Decided n root rs
+decided root rs n = record { listing = is-listing n root rs; normal = is-normal rs }

@@ -11,6 +11,7 @@ use Rattle.listing.specs.declared.Record.{Record}
 use Rattle.listing.specs.Members.{In}
 use Rattle.listing.specs.Settings.{fact, Setting}
 use Rattle.listing.specs.Listing.{node, child, value, Within, Listing, Normal, Agree}
+use Rattle.listing.specs.Tests.{is-listing, is-normal}
 
 -- The three laws of a value at a setting: True has 1, False has 0, and each node has what the target has that its fact picks.
 pub record Values (rs : List Record) (s : List Bool) (v : Target → Bool) : Type 0 where
@@ -41,3 +42,8 @@ abbrev pub Least : Target → List Record → Type 0
 Least root xs =
     (n : ℕ) (root′ : Target) (ys : List Record) → Listing n root xs → Normal xs → Listing n root′ ys →
     Agree n xs root ys root′ → length xs ≤ length ys
+
+-- The tests of specs/Tests decide the rules and the normal form.
+pub record Decided (n : ℕ) (root : Target) (rs : List Record) : Type 0 where
+  pub listing : Decides (is-listing n root rs) (Listing n root rs)
+  pub normal : Decides (is-normal rs) (Normal rs)
