@@ -6,7 +6,7 @@ pub mod faults;
 pub mod loading;
 mod marks;
 mod places;
-pub mod reduce_rows;
+mod reduce_rows;
 pub mod row;
 mod rules;
 mod settle;
