@@ -1,7 +1,7 @@
-// What is wrong with a text.
+// What is wrong with a text, and what stops the writing of one.
 
 ghost use mathlib.Core.Path.{_≡_};
-ghost use Rattle.text.specs.Faults.{told};
+ghost use Rattle.text.specs.Faults.{told, told-write};
 
 use listing::reports::Report;
 
@@ -23,6 +23,24 @@ impl TextFault {
         match self {
             TextFault::Length => Report { number: 3, place: 0, detail: 0 },
             TextFault::Column { line, column } => Report { number: 4, place: line, detail: column },
+        }
+    }
+}
+
+/// Why a text is not written.
+#[derive(Clone, Copy, PartialEq, Eq)]
+pub enum WriteFault {
+    /// The buffer is shorter than the text.
+    Short,
+}
+
+impl WriteFault {
+    /// The fault's number, place and detail.
+    pub fn report(self) -> Report
+        ensures { λ r. ⌜ r ≡ told-write self ⌝ }
+    {
+        match self {
+            WriteFault::Short => Report { number: 18, place: 0, detail: 0 },
         }
     }
 }
