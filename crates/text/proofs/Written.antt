@@ -134,3 +134,13 @@ unfolding written
 puts-text n m t rs a b c len l e f g =
     puts-both 0 21 (header n (length rs) t) (joined (line n) rs) a b c (omega arith) (omega (arith, length-header n (length rs) t)) (subst (λ k. Puts 0 (header n k t) a b) e f) g ∙
     ap (λ j. written n t rs ++ drop j a) (let z : 0 + length (written n t rs) ≡ len = omega (arith, length-written n t rs) in z)
+
+-- a fault's line, column by column
+pub puts-report : (x y z : ℕ) (a b c d e : List ℕ) → 6 ≤ length b → 12 ≤ length c → Puts 0 (padded 6 x) a b → Puts 6 (padded 6 y) b c → Puts 12 (padded 6 z) c d → Puts 18 (10 ∷ []) d e → Puts 0 (padded 6 x ++ (padded 6 y ++ (padded 6 z ++ (10 ∷ [])))) a e
+puts-report x y z a b c d e lb lc p q r s =
+    puts-both 0 6 (padded 6 x) (padded 6 y ++ (padded 6 z ++ (10 ∷ []))) a b e (omega arith) (omega (arith, length-padded 6 x)) p
+      (puts-both 6 12 (padded 6 y) (padded 6 z ++ (10 ∷ [])) b c e lb (omega (arith, length-padded 6 y)) q
+        (puts-both 12 18 (padded 6 z) (10 ∷ []) c d e lc (omega (arith, length-padded 6 z)) r s))
+
+pub length-report : (x y z : ℕ) → length (padded 6 x ++ (padded 6 y ++ (padded 6 z ++ (10 ∷ [])))) ≡ 19
+length-report x y z = simp (length-append, length-padded)

@@ -10,6 +10,7 @@ use Rattle.std.specs.declared.option.Option.the-variants.{None}
 use Rattle.listing.specs.declared.Target.{Target}
 use Rattle.listing.specs.declared.Target.the-variants.{Node, False, True}
 use Rattle.listing.specs.declared.Record.{Record}
+use Rattle.listing.specs.declared.reports.Report.{Report}
 use Rattle.listing.specs.Listing.{Listing}
 use Rattle.text.specs.Layout.{facts-of, root-of, records-of, text-fault}
 
@@ -81,3 +82,12 @@ Opens-again n root rs bs = n ≤ 9999 → length rs ≤ 999999 → Listing n roo
 pub record Wrote (n : ℕ) (root : Target) (rs : List Record) (before after : List ℕ) (len : ℕ) : Type 0 where
   pub size : len ≡ 21 + 31 * length rs
   pub text : after ≡ written n root rs ++ drop len before
+
+-- what is told of a fault, as a line: number, place and detail in columns of 6, and a line feed
+abbrev pub report-line : Report → List ℕ
+report-line r = padded 6 (r .number) ++ (padded 6 (r .place) ++ (padded 6 (r .detail) ++ (10 ∷ [])))
+
+-- a fault's line stands in the first 19 bytes, and the bytes behind it are as they were
+pub record Reported (r : Report) (before after : List ℕ) (len : ℕ) : Type 0 where
+  pub size : len ≡ 19
+  pub text : after ≡ report-line r ++ drop 19 before

@@ -5,8 +5,6 @@
 mod columns;
 pub mod faults;
 pub mod opening;
+pub mod reporting;
 pub mod summary;
 pub mod writing;
-
-
-

@@ -25,7 +25,7 @@ fn lead(rest: usize) -> u8
 }
 
 // Fills a column with a number.
-fn put_number(column: &mut [u8], value: usize)
+pub(crate) fn put_number(column: &mut [u8], value: usize)
     requires { ⌜ 0 < length (now column) ⌝ }
     ensures { λ _. ⌜ now (column .exit) ≡ padded (length (now (column .entry))) value ⌝ }
 {
@@ -78,7 +78,7 @@ fn put_target(out: &mut [u8], at: usize, n: u16, target: Target)
 }
 
 // Ends a line: the byte at `at` becomes a line feed.
-fn put_feed(out: &mut [u8], at: usize)
+pub(crate) fn put_feed(out: &mut [u8], at: usize)
     requires { ⌜ at < length (now out) ⌝ }
     ensures { λ _. ⌜ Puts at (10 ∷ []) (now (out .entry)) (now (out .exit)) ⌝ }
 {

@@ -1,0 +1,42 @@
+-- What making a text normal comes to.
+use mathlib.Core.Path.{_≡_}
+use mathlib.Core.List.{List, _++_}
+use Prim.Native.Nat.{ℕ, _+_, _*_, _<_, _≤_}
+use lib.ListN.{length, take, drop}
+use Rattle.std.specs.declared.option.Option.the-variants.{Some, None}
+use Rattle.std.specs.declared.result.Result.{Result}
+use Rattle.std.specs.declared.result.Result.the-variants.{Ok, Err}
+use Rattle.listing.specs.declared.Target.{Target}
+use Rattle.listing.specs.declared.Record.{Record}
+use Rattle.listing.specs.Settings.{Facts}
+use Rattle.text.specs.Layout.{facts-of, root-of, records-of, text-fault}
+use Rattle.text.specs.Writing.{Wrote, Tells}
+use Rattle.reduce.specs.declared.loading.Loaded.{Loaded}
+use Rattle.reduce.specs.Loading.{Spaces, Fitting, Loads}
+use Rattle.normalizing.specs.declared.faults.NormalFault.{NormalFault}
+use Rattle.normalizing.specs.declared.faults.NormalFault.the-variants as fault
+
+-- the input is short enough, its text has no fault, and its n is allowed
+pub record Readable (input : List ℕ) : Type 0 where
+  pub short : length input ≤ 15986
+  pub faultless : text-fault input ≡ None
+  pub facts : Facts (facts-of input)
+
+-- the text's listing is loaded, and the normal listing's text is written: its first `len` bytes tell that listing
+pub record Made (input : List ℕ) (s : Spaces) (before after : List ℕ) (len : ℕ) : Type 0 where
+  pub root : Target
+  pub records : List Record
+  pub fitting : Fitting (facts-of input) (root-of input) (records-of input) root records
+  pub loaded : (d : Loaded) × Loads (facts-of input) (facts-of input) (root-of input) (records-of input) s (Ok d)
+  pub wrote : Wrote (facts-of input) root records before after len
+  pub tells : Tells (facts-of input) root records (take len after)
+
+-- what is answered for an input, the caller's work space and output: the first fault, in the order told, and then the
+-- output is as it was, or the normal text
+abbrev pub Normalized : List ℕ → Spaces → List ℕ → List ℕ → Result ℕ NormalFault → Type 0
+Normalized input s before after (Err fault.Input) = (15986 < length input) × (after ≡ before)
+Normalized input s before after (Err (fault.Text f)) = (length input ≤ 15986) × (text-fault input ≡ Some f) × (after ≡ before)
+Normalized input s before after (Err fault.Facts) = (length input ≤ 15986) × (text-fault input ≡ None) × (Facts (facts-of input) → ⊥) × (after ≡ before)
+Normalized input s before after (Err (fault.Load f)) = Readable input × Loads (facts-of input) (facts-of input) (root-of input) (records-of input) s (Err f) × (after ≡ before)
+Normalized input s before after (Err (fault.Write f)) = Readable input × (after ≡ before)
+Normalized input s before after (Ok len) = Readable input × Made input s before after len
