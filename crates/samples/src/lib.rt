@@ -2,3 +2,6 @@
 
 #[cfg(test)]
 mod texts;
+
+#[cfg(test)]
+mod written;

@@ -1,15 +1,14 @@
 -- What is written is read again.
 use mathlib.Core.Path.{_≡_, refl, sym, ap, ap₂, _∙_, subst, subst⁻¹}
-use mathlib.Core.Bool.{Bool, true, false, cond}
+use mathlib.Core.Bool.{true, false}
 use mathlib.Core.List.{List, [], _∷_, _++_, append-assoc}
-use mathlib.Core.Logic.{_⊎_, inl, inr, ⊎-elim}
+use mathlib.Core.Logic.{inl, inr, ⊎-elim}
 use Prim.Native.Nat.{ℕ, zero, suc, _+_, _*_, _-_, _/_, _%_, _^_, _<_, _≤_}
 use native.Mathlib.Nat.{pow-suc}
 use native.Mathlib.Omega.{arith}
 use lib.ListN.{length, take, drop}
 use Rattle.std.specs.Joined.{joined}
 use Rattle.std.specs.Options.{valueOr}
-use Rattle.std.specs.declared.option.Option.{Option}
 use Rattle.std.specs.declared.option.Option.the-variants.{Some, None}
 use Rattle.std.proofs.shelf.Lists.{drop-drop, drop-at, take-at}
 use Rattle.std.proofs.shelf.Tests.{cond-true, cond-false, eq-eqb, ne-eqb, cases-lt}
@@ -17,11 +16,10 @@ use Rattle.listing.specs.declared.Target.{Target}
 use Rattle.listing.specs.declared.Target.the-variants.{Node, False, True}
 use Rattle.listing.specs.declared.Record.{Record}
 use Rattle.listing.specs.Members.{In}
-use Rattle.listing.specs.Listing.{node, Within, Levelled, Follows, Next, Numbered, Listing}
+use Rattle.listing.specs.Listing.{node, Within, Levelled, Follows, Next, Numbered}
 use Rattle.listing.proofs.Rules.{root-within}
-use Rattle.text.specs.declared.faults.TextFault.{TextFault}
 use Rattle.text.specs.Columns.{digits, numeral, column-of, value-at}
-use Rattle.text.specs.Layout.{width, target-of, record-of, lines-of, facts-of, count-of, root-of, records-of, line-fault, at-line, lines-fault, body-fault, text-fault}
+use Rattle.text.specs.Layout.{width, target-of, record-of, lines-of, facts-of, count-of, root-of, records-of, line-fault, at-line, lines-fault, text-fault}
 use Rattle.text.specs.Writing.{lead, leading, padded, pair, level-of, number-of, aim, header, columns, line, written, Tells, Opens-again}
 use Rattle.text.proofs.Numbers.{yes-digit}
 use Rattle.text.proofs.Lines.{line-some, text-long, body-lines}

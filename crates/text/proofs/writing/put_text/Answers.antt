@@ -1,7 +1,5 @@
-use mathlib.Core.Path.{_≡_, refl}
-use mathlib.Core.List.{_++_}
+use mathlib.Core.Path.{refl}
 use lib.ListN.{length, drop}
-use Rattle.text.specs.Writing.{written}
 use Rattle.text.proofs.Written.{puts-text}
 use Rattle.text.proofs.Again.{front-again}
 use Rattle.text.proofs.writing.put_text.Needs as need
