@@ -4,17 +4,20 @@ use mathlib.Core.List.{List, _++_}
 use Prim.Native.Nat.{ℕ, _+_, _*_, _<_, _≤_}
 use lib.ListN.{length, take, drop}
 use Rattle.std.specs.declared.option.Option.the-variants.{Some, None}
+use Rattle.std.specs.Results.{Cases}
 use Rattle.std.specs.declared.result.Result.{Result}
 use Rattle.std.specs.declared.result.Result.the-variants.{Ok, Err}
 use Rattle.listing.specs.declared.Target.{Target}
 use Rattle.listing.specs.declared.Record.{Record}
 use Rattle.listing.specs.Settings.{Facts}
 use Rattle.text.specs.Layout.{facts-of, root-of, records-of, text-fault}
-use Rattle.text.specs.Writing.{Wrote, Tells}
+use Rattle.text.specs.declared.faults.WriteFault.{WriteFault}
+use Rattle.text.specs.Writing.{Wrote, Tells, Reported}
 use Rattle.reduce.specs.declared.loading.Loaded.{Loaded}
 use Rattle.reduce.specs.Loading.{Spaces, Fitting, Loads}
 use Rattle.normalizing.specs.declared.faults.NormalFault.{NormalFault}
 use Rattle.normalizing.specs.declared.faults.NormalFault.the-variants as fault
+use Rattle.normalizing.specs.Faults.{told}
 
 -- the input is short enough, its text has no fault, and its n is allowed
 pub record Readable (input : List ℕ) : Type 0 where
@@ -40,3 +43,15 @@ Normalized input s before after (Err fault.Facts) = (length input ≤ 15986) × 
 Normalized input s before after (Err (fault.Load f)) = Readable input × Loads (facts-of input) (facts-of input) (root-of input) (records-of input) s (Err f) × (after ≡ before)
 Normalized input s before after (Err (fault.Write f)) = Readable input × (after ≡ before)
 Normalized input s before after (Ok len) = Readable input × Made input s before after len
+
+-- what is put out: the normal text, or the line of the fault; an output too short for that line stays as it was
+abbrev pub Printed : Result ℕ NormalFault → List ℕ → List ℕ → Result ℕ WriteFault → Type 0
+Printed (Ok len) middle after r = (after ≡ middle) × (r ≡ Ok len)
+Printed (Err f) middle after r = Cases r (λ len. Reported (told f) middle after len) (λ _. (length middle < 19) × (after ≡ middle))
+
+-- the bytes that are put out for an input: what is made of it, printed
+pub record Answered (input : List ℕ) (s : Spaces) (before after : List ℕ) (r : Result ℕ WriteFault) : Type 0 where
+  pub outcome : Result ℕ NormalFault
+  pub middle : List ℕ
+  pub normalized : Normalized input s before middle outcome
+  pub printed : Printed outcome middle after r

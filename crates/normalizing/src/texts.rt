@@ -4,8 +4,9 @@ ghost use mathlib.Core.Path.{_≡_};
 ghost use Prim.Native.Nat.{_≤_};
 ghost use lib.ListN.{length, take};
 ghost use Rattle.std.specs.Results.{Cases as ByOk};
+ghost use Rattle.std.specs.declared.result.Result.the-variants.{Err};
 ghost use Rattle.text.specs.Writing.{Wrote, Opens-again};
-ghost use Rattle.normalizing.specs.Texts.{Normalized};
+ghost use Rattle.normalizing.specs.Texts.{Normalized, Printed, Answered};
 
 use crate::faults::NormalFault;
 use crate::faults::NormalFromLoad;
@@ -22,6 +23,7 @@ use source::Source;
 use text::faults::WriteFault;
 use text::opening::Text;
 use text::opening::TextSource;
+use text::reporting::write_report;
 use text::writing::write;
 
 /// The most bytes that an input may have: a header and 515 records.
@@ -45,6 +47,24 @@ pub fn normal_text(input: &[u8], rows: &mut [Row], records: &mut [Record], outpu
     let loaded = load(n, &text, rows, records)?;
     let len = write_front(n, loaded, records, output)?;
     Ok(len)
+}
+
+/// The bytes that the program `normal` puts out for an input, and their number: the normal text, or the line of the
+/// fault, its number, place and detail in columns of 6. An output too short for that line is told and left alone.
+pub fn normal_bytes(input: &[u8], rows: &mut [Row], records: &mut [Record], output: &mut [u8]) -> Result<usize, WriteFault>
+    ensures { λ r. ⌜ Answered (now (input .entry)) (record { rows = now (rows .entry); rows-after = now (rows .exit); records = now (records .entry); records-after = now (records .exit) }) (now (output .entry)) (now (output .exit)) r ⌝ }
+{
+    match normal_text(input, rows, records, output) {
+        Ok(len) => Ok(len),
+        Err(fault) => print_fault(fault, output),
+    }
+}
+
+// Writes the line of a fault, if there is room for it.
+fn print_fault(fault: NormalFault, output: &mut [u8]) -> Result<usize, WriteFault>
+    ensures { λ r. ⌜ Printed (Err fault) (now (output .entry)) (now (output .exit)) r ⌝ }
+{
+    write_report(fault.report(), output)
 }
 
 // Writes the text of the listing whose records stand in front.
