@@ -99,25 +99,29 @@ module _ (rs : List Record) (o : Ordered rs) (ts : Targeted rs) where
   pub inside-placed : AllInside (length rows) rows
   inside-placed = all-inside rs (λ q m. m)
 
+  -- a record with a target on a higher level stands before it
+  sooner : (j k : ℕ) (q r : Record) → nth rs j ≡ Some q → nth rs k ≡ Some r → q .level < r .level → j < k
+  sooner j k q r f e up =
+      ⊎-elim (λ d. absurd (omega (arith, ap (λ (x : Record). x .level) (nth-same rs k r q (sym e) (subst (λ i. nth rs i ≡ Some q) d f)))))
+        (λ c. ⊎-elim (λ l. l) (λ l. absurd (omega (arith, ahead-at rs o k j r q l e f))) c)
+        (cases-order j k)
+
   -- an arc to place k is an arc of an earlier record to its node
+  arc-aims : (k : ℕ) (r : Record) → nth rs k ≡ Some r → (j : ℕ) (q : Record) → nth rs j ≡ Some q → (b : Bool) → child b q ≡ node r → (x : Record) × In x (take k rs) × Aims x r
+  arc-aims k r e j q f b d =
+      let up : q .level < r .level = subst (λ (u : Target). Above (q .level) u) d (ts q (nth-in q rs j f) b .1) in
+      (q, in-take rs j k q f (sooner j k q r f e up), aims-child b q r d)
+
+  arc-node : (k : ℕ) (r : Record) → nth rs k ≡ Some r → (j : ℕ) (q : Record) → nth rs j ≡ Some q → (b : Bool) (l : ℕ) → arc b (getD rows j no-row) ≡ Node l k → child b q ≡ node r
+  arc-node k r e j q f b l a =
+      let p : placing rs (child b q) ≡ Node l k = sym {a = arc b (getD rows j no-row)} {b = placing rs (child b q)} (ap (arc b) (getD-placed rs rs j q f) ∙ arc-placed rs b q) ∙ a in
+      let w = at-place (child b q) l k (ts q (nth-in q rs j f) b .0) p in
+      sym (w .2) ∙ ap node (sym (nth-same rs k r (w .0) (sym e) (w .1)))
+
   named-aims : (k : ℕ) (r : Record) → nth rs k ≡ Some r → Named rows (length rows) k → (q : Record) × In q (take k rs) × Aims q r
   named-aims k r e w =
       let n = nth-some rs (w .0) (omega (arith, w .1, many)) in
-      let q : Record = n .0 in
-      let t : Target = child (w .2) (n .0) in
-      let inq : In (n .0) rs = nth-in (n .0) rs (w .0) (n .1) in
-      let p : placing rs (child (w .2) (n .0)) ≡ Node (w .3) k = sym (ap (arc (w .2)) (getD-placed rs rs (w .0) (n .0) (n .1)) ∙ arc-placed rs (w .2) (n .0)) ∙ w .4 in
-      let a = at-place (child (w .2) (n .0)) (w .3) k (ts (n .0) inq (w .2) .0) p in
-      let d : r ≡ a .0 = nth-same rs k r (a .0) (sym e) (a .1) in
-      let f : child (w .2) (n .0) ≡ node r = sym (a .2) ∙ ap node (sym d) in
-      let up : n .0 .level < r .level = subst (λ (u : Target). Above (n .0 .level) u) f (ts (n .0) inq (w .2) .1) in
-      (n .0, in-take rs (w .0) k (n .0) (n .1) (sooner (w .0) (n .0) (n .1) up), aims-child (w .2) (n .0) r f)
-    where
-      sooner : (j : ℕ) (q : Record) → nth rs j ≡ Some q → q .level < r .level → j < k
-      sooner j q f up =
-          ⊎-elim (λ d. absurd (omega (arith, ap (λ (x : Record). x .level) (nth-same rs k r q (sym e) (subst (λ i. nth rs i ≡ Some q) d f)))))
-            (λ c. ⊎-elim (λ l. l) (λ l. absurd (omega (arith, ahead-at rs o k j r q l e f))) c)
-            (cases-order j k)
+      arc-aims k r e (w .0) (n .0) (n .1) (w .2) (arc-node k r e (w .0) (n .0) (n .1) (w .2) (w .3) (w .4))
 
   aims-named : (k : ℕ) (r : Record) → nth rs k ≡ Some r → (q : Record) → In q (take k rs) → Aims q r → Named rows (length rows) k
   aims-named k r e q m a =

@@ -166,16 +166,24 @@ module _ (R xs : List Row) (n : ℕ) (root : Target) (g : Rowing n root (given 0
             (λ x m.
               (over-inside R (x .low) (g .targeted x (front-in x (block-in x m)) false .0), over-inside R (x .high) (g .targeted x (front-in x (block-in x m)) true .0)))))
 
+  -- the record before the level is on a lower one, and so is every record that is no later than it
+  below-last : (x q : Record) → In x (given 0 (take a R)) → In q (given 0 (take b R)) → x .number ≤ q .number → q .level ≡ getD xs (a - 1) no-row .level → 0 < a → x .level < lv
+  below-last x q m j i e z =
+      let k = mono 0 (given 0 R) (g .placed) (g .monotone) x q (front-in x (early-in x m)) (front-in q j) i in
+      let f : q .level ≡ lv → ⊥ = λ d. st .other z (sym e ∙ d) in
+      omega (arith, k, f, up-to q j)
+
   below-level : (x : Record) → In x (given 0 (take a R)) → x .level < lv
   below-level x m =
       let i : x .number < a = omega (arith, given-below 0 (take a R) x m, length-take a R) in
       let z = st .below in
       let w = given-in 0 (take b R) (a - 1) (simp length-take (omega arith)) in
-      let e : w .0 .level ≡ getD xs (a - 1) no-row .level = w .3 ∙ ap (λ (r : Row). r .level) (getD-take b R (a - 1) no-row (omega arith) ∙ sym (same-at (a - 1) (omega arith))) in
-      let k = mono 0 (given 0 R) (g .placed) (g .monotone) x (w .0) (front-in x (early-in x m)) (front-in (w .0) (w .1)) (omega (arith, i, w .2)) in
-      let f : w .0 .level ≡ lv → ⊥ = λ d. st .other (omega arith) (sym e ∙ d) in
-      let u = up-to (w .0) (w .1) in
-      omega (arith, k, f, u)
+      below-last x (w .0) m (w .1) (omega (arith, i, w .2)) (last-level (w .0) (w .3)) (omega arith)
+    where
+      last-level : (q : Record) → q .level ≡ getD (take b R) (a - 1) no-row .level → q .level ≡ getD xs (a - 1) no-row .level
+      last-level q e =
+          let z = st .below in
+          e ∙ ap (λ (r : Row). r .level) (getD-take b R (a - 1) no-row (omega arith) ∙ sym (same-at (a - 1) (omega arith)))
 
   pub reducing-again : (after : List Row) → Settled a b xs after → Reducing R a after
   reducing-again after h =
