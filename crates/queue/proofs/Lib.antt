@@ -1,0 +1,4 @@
+pub mod Ranks
+pub mod Falling
+pub mod Opening
+pub mod Heaps

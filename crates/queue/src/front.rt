@@ -1,0 +1,106 @@
+// A slot in front of a queue: it holds one element, which comes after none that waits below, and adds one to the capacity.
+// An element that is put and taken again before any other never goes below. A front slot is a queue, so slots stack.
+ghost use mathlib.Core.Path.{_≡_};
+ghost use Prim.Native.Nat.{_+_};
+ghost use Rattle.std.specs.declared.option.Option.the-variants.{None};
+ghost use Rattle.queue.specs.Front.{front, foremost, Fronts};
+ghost use Rattle.queue.specs.Fits.{front-fits};
+use super::*;
+
+/// A queue that holds one element itself and the queue below.
+#[derive(Drop)]
+pub struct FrontSlot<K, V, Q> {
+    slot: Option<Element<K, V>>,
+    below: Q,
+}
+
+impl<K: Key, V: Copy, Q: Queue<K, V>> FrontSlot<K, V, Q> {
+    /// An empty slot in front of a queue, in which any number may wait. Costs O(1).
+    pub fn new(below: Q) -> FrontSlot<K, V, Q>
+        requires { ⌜ Q·Queue .kept below ⌝ }
+        ensures kept { λ r. ⌜ Q·Queue .kept (r .below) × Fronts (K·Key .rank) (r .slot) (Q·Queue .waiting (r .below)) ⌝ }
+        ensures slot { λ r. ⌜ r .slot ≡ None ⌝ }
+        ensures below { λ r. ⌜ r .below ≡ below ⌝ }
+    {
+        FrontSlot { slot: None, below }
+    }
+}
+
+pub impl<K: Key, V: Copy, Q: Queue<K, V>> Queue<K, V> for FrontSlot<K, V, Q> as FrontSlotQueue {
+    ghost waiting = { λ s. front (s .slot) (Q·Queue .waiting (s .below)) };
+
+    ghost room = { λ s. Q·Queue .room (s .below) + 1 };
+
+    ghost next = { λ s. foremost (s .slot) (Q·Queue .next (s .below)) };
+
+    ghost kept = { λ s. Q·Queue .kept (s .below) × Fronts (K·Key .rank) (s .slot) (Q·Queue .waiting (s .below)) };
+
+    ghost fits = { λ s kept. front-fits (s .slot) (Q·Queue .waiting (s .below)) (Q·Queue .room (s .below)) (Q·Queue .fits (s .below) (kept .0)) };
+
+    /// Costs at most a look, a take and a put below.
+    fn put(&mut self, key: K, carried: V) -> Result<(), Refused<K, V>> {
+        let element = Element { key, carried };
+        match self.slot {
+            Some(first) => {
+                if first.is_after(&element) {
+                    match self.below.put(first.key, first.carried) {
+                        Ok(()) => {
+                            self.slot = Some(element);
+                            Ok(())
+                        }
+                        Err(_) => Err(Refused { element }),
+                    }
+                } else {
+                    self.below.put(key, carried)
+                }
+            }
+            None => match self.below.look() {
+                Some(next) => {
+                    if element.is_after(&next) {
+                        self.slot = self.below.take();
+                        self.below.put(key, carried)
+                    } else {
+                        self.slot = Some(element);
+                        Ok(())
+                    }
+                }
+                None => {
+                    self.slot = Some(element);
+                    Ok(())
+                }
+            },
+        }
+    }
+
+    /// Costs at most a look below.
+    fn look(&self) -> Option<Element<K, V>> {
+        match self.slot {
+            Some(first) => Some(first),
+            None => self.below.look(),
+        }
+    }
+
+    /// Costs O(1) where the slot is full, else a take below.
+    fn take(&mut self) -> Option<Element<K, V>> {
+        match self.slot {
+            Some(first) => {
+                self.slot = None;
+                Some(first)
+            }
+            None => self.below.take(),
+        }
+    }
+
+    /// Costs at most as much as below.
+    fn is_empty(&self) -> bool {
+        match self.slot {
+            Some(_) => false,
+            None => self.below.is_empty(),
+        }
+    }
+
+    /// Costs as much as below.
+    fn capacity(&self) -> usize {
+        self.below.capacity().saturating_add(1)
+    }
+}
