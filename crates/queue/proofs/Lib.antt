@@ -1,5 +1,5 @@
 pub mod Ranks
-pub mod Falling
-pub mod Opening
+pub mod Holes
 pub mod Heaps
+pub mod Falling
 pub mod Fronting
