@@ -14,22 +14,19 @@ use Rattle.std.specs.shelf.Lists.{All}
 use Rattle.std.specs.Slices.{Shuffled}
 use Rattle.std.specs.Vec.{refused}
 use Rattle.std.proofs.shelf.Elements.{all-weaker}
-use Rattle.std.proofs.shelf.Sorted.{shuffled-refl, shuffled-cons, shuffled-swap, shuffled-trans, all-shuffled, length-shuffled}
+use Rattle.std.proofs.shelf.Sorted.{shuffled-refl, shuffled-cons, shuffled-trans, all-shuffled, length-shuffled}
 use Rattle.queue.specs.Rank.{Lawful, UpTo}
 use Rattle.queue.specs.Front.{front, Fronts}
 use Rattle.queue.specs.Waiting.{Least, Put}
 use Rattle.queue.specs.declared.Element.{Element}
 use Rattle.queue.specs.declared.Refused.{Refused}
+use Rattle.queue.proofs.Bags.{shuffled-two}
 use Rattle.queue.proofs.Ranks.{upto-trans}
 
 -- what was refused below left the whole as it was
 pub refused-under : {A B T E : Type 0} (f : A → B) (r : Result T E) (a b : A) → refused r (λ _. b ≡ a) → refused r (λ _. f b ≡ f a)
 refused-under f (Ok x) a b h = tt
 refused-under f (Err e) a b h = ap f h
-
--- the first two change places
-shuffled-two : {X : Type 0} (x y : X) (xs : List X) → Shuffled (x ∷ y ∷ xs) (y ∷ x ∷ xs)
-shuffled-two x y xs = shuffled-swap (x ∷ y ∷ xs) (y ∷ x ∷ xs) 0 1 (omega arith) (omega arith) refl
 
 module _ {K V : Type 0} {rank : K → K → Ordering} (law : Lawful rank) where
   -- what does not come after x comes after none of those that x does not come after

@@ -1,3 +1,4 @@
+pub mod Bags
 pub mod Ranks
 pub mod Holes
 pub mod Heaps
