@@ -1,7 +1,7 @@
 -- What a slot in front of a queue keeps when one is put. Assumes nothing.
 use mathlib.Core.Path.{_≡_, refl, sym, ap, subst, _∙_}
 use mathlib.Core.List.{List, [], _∷_}
-use mathlib.Core.Bool.{true, false}
+use mathlib.Core.Bool.{Bool, true, false, cond}
 use Prim.Native.Nat.{ℕ, _+_, _≤_, _<_}
 use native.Mathlib.Omega.{arith}
 use lib.ListN.{length}
@@ -10,6 +10,7 @@ use Rattle.std.specs.declared.option.Option.{Option}
 use Rattle.std.specs.declared.option.Option.the-variants.{None, Some}
 use Rattle.std.specs.declared.result.Result.{Result}
 use Rattle.std.specs.declared.result.Result.the-variants.{Ok, Err}
+use Rattle.std.specs.Orderings.{isGt}
 use Rattle.std.specs.shelf.Lists.{All}
 use Rattle.std.specs.Slices.{Shuffled}
 use Rattle.std.specs.Vec.{refused}
@@ -21,12 +22,16 @@ use Rattle.queue.specs.Waiting.{Least, Put}
 use Rattle.queue.specs.declared.Element.{Element}
 use Rattle.queue.specs.declared.Refused.{Refused}
 use Rattle.queue.proofs.Bags.{shuffled-two}
-use Rattle.queue.proofs.Ranks.{upto-trans}
+use Rattle.queue.proofs.Holes.{key-of}
+use Rattle.queue.proofs.Ranks.{upto-self, upto-turned, upto-trans, upto-at}
 
--- what was refused below left the whole as it was
-pub refused-under : {A B T E : Type 0} (f : A → B) (r : Result T E) (a b : A) → refused r (λ _. b ≡ a) → refused r (λ _. f b ≡ f a)
-refused-under f (Ok x) a b h = tt
-refused-under f (Err e) a b h = ap f h
+-- what two calls said of the next is the same
+pub both-next : {X : Type 0} (o p next : Option X) → o ≡ next → p ≡ next → o ≡ p
+both-next o p next a b = a ∙ sym b
+
+-- one more slot than below
+pub one-more : (a b : ℕ) → a ≡ b → a + 1 ≡ b + 1
+one-more a b e = ap (λ n. n + 1) e
 
 module _ {K V : Type 0} {rank : K → K → Ordering} (law : Lawful rank) where
   -- what does not come after x comes after none of those that x does not come after
@@ -39,26 +44,41 @@ module _ {K V : Type 0} {rank : K → K → Ordering} (law : Lawful rank) where
   all-put x e xs ys room (Ok u) all h p = all-shuffled (λ (y : Element K V). UpTo rank (x .key) (y .key)) (e ∷ xs) ys (p .1) (h, all)
   all-put x e xs ys room (Err f) all h p = subst (λ l. All (λ (y : Element K V). UpTo rank (x .key) (y .key)) l) (sym (p .2)) all
 
-  -- the slot is full
-  module _ (slot : Option (Element K V)) (x : Element K V) (is : slot ≡ Some x) (xs ys : List (Element K V)) (e : Element K V) (room : ℕ) where
-    -- e takes its place, and what it held goes below
-    pub ahead-kept : Fronts rank slot xs → UpTo rank (e .key) (x .key) → Shuffled (x ∷ xs) ys → All (λ y. UpTo rank (e .key) (y .key)) ys
-    ahead-kept f h s = all-shuffled (λ (y : Element K V). UpTo rank (e .key) (y .key)) (x ∷ xs) ys s (h, all-upto e x xs h (subst (λ o. Fronts rank o xs) is f))
+  -- of x and e, one goes to the front and the other behind
+  module _ (x e front′ behind : Element K V) (at-front : front′ ≡ cond (isGt (rank (x .key) (e .key))) e x) (at-back : behind ≡ cond (isGt (rank (x .key) (e .key))) x e) (xs : List (Element K V)) where
+    record Two : Type 0 where
+      lesser : UpTo rank (front′ .key) (behind .key)
+      first : UpTo rank (front′ .key) (x .key)
+      same : Shuffled (e ∷ x ∷ xs) (front′ ∷ behind ∷ xs)
 
-    pub ahead-put : length xs < room → Shuffled (x ∷ xs) ys → (length (front slot xs) < room + 1) × Shuffled (e ∷ front slot xs) (e ∷ ys)
-    ahead-put h s = subst (λ o. (length (front o xs) < room + 1) × Shuffled (e ∷ front o xs) (e ∷ ys)) (sym is) (omega arith, shuffled-cons e (x ∷ xs) ys s)
+    two-by : (b : Bool) → isGt (rank (x .key) (e .key)) ≡ b → front′ ≡ cond b e x → behind ≡ cond b x e → Two
+    two-by true is f g =
+        let h : UpTo rank (e .key) (x .key) = upto-turned law (x .key) (e .key) is in
+        record {
+          lesser = upto-at law (e .key) (x .key) (front′ .key) (behind .key) (key-of f) (key-of g) h;
+          first = upto-at law (e .key) (x .key) (front′ .key) (x .key) (key-of f) refl h;
+          same = subst (λ u. Shuffled (e ∷ x ∷ xs) (u ∷ behind ∷ xs)) (sym f) (subst (λ v. Shuffled (e ∷ x ∷ xs) (e ∷ v ∷ xs)) (sym g) (shuffled-refl (e ∷ x ∷ xs)))
+        }
+    two-by false is f g =
+        record {
+          lesser = upto-at law (x .key) (e .key) (front′ .key) (behind .key) (key-of f) (key-of g) is;
+          first = upto-at law (x .key) (x .key) (front′ .key) (x .key) (key-of f) refl (upto-self law (x .key));
+          same = subst (λ u. Shuffled (e ∷ x ∷ xs) (u ∷ behind ∷ xs)) (sym f) (subst (λ v. Shuffled (e ∷ x ∷ xs) (x ∷ v ∷ xs)) (sym g) (shuffled-two e x xs))
+        }
 
-    -- e goes below
-    module _ (r : Result (Unit {0}) (Refused K V)) where
-      pub behind-kept : Fronts rank slot xs → UpTo rank (x .key) (e .key) → Put xs room e ys r → Fronts rank slot ys
-      behind-kept f h p = subst (λ o. Fronts rank o ys) (sym is) (all-put x e xs ys room r (subst (λ o. Fronts rank o xs) is f) h p)
+    two : Two
+    two = two-by (isGt (rank (x .key) (e .key))) refl at-front at-back
 
-      pub behind-put : Put xs room e ys r → Put (front slot xs) (room + 1) e (front slot ys) r
-      behind-put p = subst (λ o. Put (front o xs) (room + 1) e (front o ys) r) (sym is) (joins r p)
-        where
-        joins : (q : Result (Unit {0}) (Refused K V)) → Put xs room e ys q → Put (x ∷ xs) (room + 1) e (x ∷ ys) q
-        joins (Ok u) p = (omega (arith, p .0), shuffled-trans (e ∷ x ∷ xs) (x ∷ e ∷ xs) (x ∷ ys) (shuffled-two e x xs) (shuffled-cons x (e ∷ xs) ys (p .1)))
-        joins (Err f) p = (omega (arith, p .0), p .1, ap (λ l. x ∷ l) (p .2))
+    -- the slot held x, and what does not stay in front was put below
+    module _ (slot : Option (Element K V)) (is : slot ≡ Some x) (ys : List (Element K V)) (s : Shuffled (behind ∷ xs) ys) where
+      pub two-kept : Fronts rank slot xs → All (λ y. UpTo rank (front′ .key) (y .key)) ys
+      two-kept f =
+          all-shuffled (λ (y : Element K V). UpTo rank (front′ .key) (y .key)) (behind ∷ xs) ys s (two .lesser, all-upto front′ x xs (two .first) (subst (λ o. Fronts rank o xs) is f))
+
+      pub two-put : (room : ℕ) → length xs < room → (length (front slot xs) < room + 1) × Shuffled (e ∷ front slot xs) (front′ ∷ ys)
+      two-put room h =
+          subst (λ o. (length (front o xs) < room + 1) × Shuffled (e ∷ front o xs) (front′ ∷ ys)) (sym is)
+          (omega arith, shuffled-trans (e ∷ x ∷ xs) (front′ ∷ behind ∷ xs) (front′ ∷ ys) (two .same) (shuffled-cons front′ (behind ∷ xs) ys s))
 
   -- the slot is empty, and e does not come after the next below: it goes into the slot
   pub slot-kept : (x e : Element K V) (xs : List (Element K V)) → Least rank xs (Some x) → UpTo rank (e .key) (x .key) → All (λ y. UpTo rank (e .key) (y .key)) xs

@@ -1,8 +1,10 @@
 // A slot in front of a queue: it holds one element, which comes after none that waits below, and adds one to the capacity.
 // An element that is put and taken again before any other never goes below. A front slot is a queue, so slots stack.
 ghost use mathlib.Core.Path.{_≡_};
+ghost use mathlib.Core.Bool.{cond};
 ghost use Prim.Native.Nat.{_+_};
 ghost use Rattle.std.specs.declared.option.Option.the-variants.{None};
+ghost use Rattle.std.specs.Orderings.{isGt};
 ghost use Rattle.queue.specs.Front.{front, foremost, Fronts};
 ghost use Rattle.queue.specs.Fits.{front-fits};
 use super::*;
@@ -26,6 +28,24 @@ impl<K: Key, V: Copy, Q: Queue<K, V>> FrontSlot<K, V, Q> {
     }
 }
 
+// Two elements, of which the front one does not come after the other.
+struct Pair<K, V> {
+    front: Element<K, V>,
+    behind: Element<K, V>,
+}
+
+// Which of the two goes to the front: the one that is there, where the other does not come before it.
+fn ordered<K: Key, V: Copy>(there: Element<K, V>, other: Element<K, V>) -> Pair<K, V>
+    ensures front { λ r. ⌜ r .front ≡ cond (isGt (K·Key .rank (there .key) (other .key))) other there ⌝ }
+    ensures behind { λ r. ⌜ r .behind ≡ cond (isGt (K·Key .rank (there .key) (other .key))) there other ⌝ }
+{
+    if there.is_after(&other) {
+        Pair { front: other, behind: there }
+    } else {
+        Pair { front: there, behind: other }
+    }
+}
+
 pub impl<K: Key, V: Copy, Q: Queue<K, V>> Queue<K, V> for FrontSlot<K, V, Q> as FrontSlotQueue {
     ghost waiting = { λ s. front (s .slot) (Q·Queue .waiting (s .below)) };
 
@@ -42,16 +62,13 @@ pub impl<K: Key, V: Copy, Q: Queue<K, V>> Queue<K, V> for FrontSlot<K, V, Q> as 
         let element = Element { key, carried };
         match self.slot {
             Some(first) => {
-                if first.is_after(&element) {
-                    match self.below.put(first.key, first.carried) {
-                        Ok(()) => {
-                            self.slot = Some(element);
-                            Ok(())
-                        }
-                        Err(_) => Err(Refused { element }),
+                let Pair { front, behind } = ordered(first, element);
+                match self.below.put(behind.key, behind.carried) {
+                    Ok(()) => {
+                        self.slot = Some(front);
+                        Ok(())
                     }
-                } else {
-                    self.below.put(key, carried)
+                    Err(_) => Err(Refused { element }),
                 }
             }
             None => match self.below.look() {

@@ -4,7 +4,7 @@
 ghost use mathlib.Core.Path.{_≡_};
 ghost use mathlib.Core.List.{List, []};
 ghost use Prim.Native.Nat.{ℕ, min, _-_, _^_, _≤_, _<_};
-ghost use lib.ListN.{length, getD};
+ghost use lib.ListN.{length};
 ghost use lib.Dec.{eqb};
 ghost use Rattle.std.specs.declared.cmp.Ordering.{Ordering};
 ghost use Rattle.std.specs.declared.option.Option.{Option};
@@ -116,14 +116,6 @@ pub fn drain<K: Key, V: Copy, Q: Queue<K, V>>(queue: &mut Q)
     ensures empty { λ _. ⌜ Q·Queue .waiting (now (queue .exit)) ≡ [] ⌝ }
 {
     while let Some(_) = queue.take() {}
-}
-
-// The element at a place of a slice.
-fn copied<K: Copy, V: Copy>(slots: &[Element<K, V>], at: usize) -> Element<K, V>
-    requires { ⌜ at < length (now slots) ⌝ }
-    ensures { λ r. ⌜ r ≡ getD (now (slots .entry)) at r ⌝ }
-{
-    slots[at]
 }
 
 pub impl Key for u64 as U64Key {
