@@ -57,13 +57,13 @@ module _ {K V : Type 0} {rank : K → K → Ordering} (law : Lawful rank) where
         record {
           lesser = upto-at law (e .key) (x .key) (front′ .key) (behind .key) (key-of f) (key-of g) h;
           first = upto-at law (e .key) (x .key) (front′ .key) (x .key) (key-of f) refl h;
-          same = subst (λ u. Shuffled (e ∷ x ∷ xs) (u ∷ behind ∷ xs)) (sym f) (subst (λ v. Shuffled (e ∷ x ∷ xs) (e ∷ v ∷ xs)) (sym g) (shuffled-refl (e ∷ x ∷ xs)))
+          same = subst (λ u. Shuffled (e ∷ x ∷ xs) (u ∷ behind ∷ xs)) (sym f) (subst (λ v. Shuffled (e ∷ x ∷ xs) (e ∷ v ∷ xs)) (sym g) (shuffled-refl (e ∷ x ∷ xs)));
         }
     two-by false is f g =
         record {
           lesser = upto-at law (x .key) (e .key) (front′ .key) (behind .key) (key-of f) (key-of g) is;
           first = upto-at law (x .key) (x .key) (front′ .key) (x .key) (key-of f) refl (upto-self law (x .key));
-          same = subst (λ u. Shuffled (e ∷ x ∷ xs) (u ∷ behind ∷ xs)) (sym f) (subst (λ v. Shuffled (e ∷ x ∷ xs) (x ∷ v ∷ xs)) (sym g) (shuffled-two e x xs))
+          same = subst (λ u. Shuffled (e ∷ x ∷ xs) (u ∷ behind ∷ xs)) (sym f) (subst (λ v. Shuffled (e ∷ x ∷ xs) (x ∷ v ∷ xs)) (sym g) (shuffled-two e x xs));
         }
 
     two : Two
@@ -103,10 +103,11 @@ module _ {K V : Type 0} {rank : K → K → Ordering} (law : Lawful rank) where
       refill-same P = never r P p
 
       joins : (q : Result (Unit {0}) (Refused K V)) → Put ys room e zs q → Put xs (room + 1) e (x ∷ zs) q
-      joins (Ok u) p =
-          (omega arith,
-          shuffled-trans (e ∷ xs) (e ∷ x ∷ ys) (x ∷ zs) (shuffled-cons e xs (x ∷ ys) s)
-          (shuffled-trans (e ∷ x ∷ ys) (x ∷ e ∷ ys) (x ∷ zs) (shuffled-two e x ys) (shuffled-cons x (e ∷ ys) zs (p .1))))
+      joins (Ok u) p = (
+        omega arith,
+        shuffled-trans (e ∷ xs) (e ∷ x ∷ ys) (x ∷ zs) (shuffled-cons e xs (x ∷ ys) s)
+            (shuffled-trans (e ∷ x ∷ ys) (x ∷ e ∷ ys) (x ∷ zs) (shuffled-two e x ys) (shuffled-cons x (e ∷ ys) zs (p .1))),
+      )
       joins (Err f) p = let n = length-shuffled xs (x ∷ ys) s in absurd (omega (arith, p .0))
 
       pub refill-put : Put (front slot xs) (room + 1) e (front o zs) r

@@ -40,9 +40,15 @@ fn ordered<K: Key, V: Copy>(there: Element<K, V>, other: Element<K, V>) -> Pair<
     ensures behind { λ r. ⌜ r .behind ≡ cond (isGt (K·Key .rank (there .key) (other .key))) there other ⌝ }
 {
     if there.is_after(&other) {
-        Pair { front: other, behind: there }
+        Pair {
+            front: other,
+            behind: there,
+        }
     } else {
-        Pair { front: there, behind: other }
+        Pair {
+            front: there,
+            behind: other,
+        }
     }
 }
 

@@ -27,7 +27,7 @@ returns-in-Ok g c =
       kept = (p .kept, two-kept law (c .in-Some .first) e (o .result .front) (o .result .behind) (o .ensures .front) (o .ensures .behind) xs (s .slot) (c .in-Some .is) ys (p .put .1) (c .pre .1));
       room = one-more (q .room (c .put .last .self)) room (p .room);
       same = tt;
-      put = two-put law (c .in-Some .first) e (o .result .front) (o .result .behind) (o .ensures .front) (o .ensures .behind) xs (s .slot) (c .in-Some .is) ys (p .put .1) room (p .put .0)
+      put = two-put law (c .in-Some .first) e (o .result .front) (o .result .behind) (o .ensures .front) (o .ensures .behind) xs (s .slot) (c .in-Some .is) ys (p .put .1) room (p .put .0);
     }
 
 pub returns-then-is-after : need.returns-then-is-after
@@ -48,11 +48,13 @@ returns-then-is-after g c =
     let p = subst (λ n. Put ys n e zs r) (c .take-self .ensures .room) (c .put-then-is-after .ensures .put) in
     let fits = q .fits (s .below) (c .pre .0) in
     record {
-      kept = (c .put-then-is-after .ensures .kept,
-        refill-kept law (s .slot) o x e (c .in-None .is) is xs ys zs room r t p (c .in-Some-look .ensures tt .least) (after-told law (e .key) (x .key) (c .if-is-after .ensures tt)));
+      kept = (
+        c .put-then-is-after .ensures .kept,
+        refill-kept law (s .slot) o x e (c .in-None .is) is xs ys zs room r t p (c .in-Some-look .ensures tt .least) (after-told law (e .key) (x .key) (c .if-is-after .ensures tt)),
+      );
       room = one-more (q .room (c .put-then-is-after .last .self)) room (c .put-then-is-after .ensures .room ∙ c .take-self .ensures .room);
       same = refill-same law (s .slot) o x e (c .in-None .is) is xs ys zs room r t p fits (λ _. remade o (c .put-then-is-after .last .self) ≡ s);
-      put = refill-put law (s .slot) o x e (c .in-None .is) is xs ys zs room r t p fits
+      put = refill-put law (s .slot) o x e (c .in-None .is) is xs ys zs room r t p fits;
     }
 
 pub returns-else-is-after : need.returns-else-is-after
@@ -66,5 +68,5 @@ returns-else-is-after g c =
       kept = (c .pre .0, slot-kept law (c .in-Some-look .next) e xs (c .in-Some-look .ensures tt .least) (upto-told law (e .key) (c .in-Some-look .next .key) (c .if-is-after .ensures tt)));
       room = refl {a = q .room (s .below) + 1};
       same = tt;
-      put = slot-put law (s .slot) e xs (q .room (s .below)) (c .in-None .is) (q .fits (s .below) (c .pre .0))
+      put = slot-put law (s .slot) e xs (q .room (s .below)) (c .in-None .is) (q .fits (s .below) (c .pre .0));
     }
