@@ -1,5 +1,5 @@
 // A slot in front of a queue: it holds one element, which comes after none that waits below, and adds one to the capacity.
-// An element that is put and taken again before any other never goes below. A front slot is a queue, so slots stack.
+// So what is put as the least and taken before a lesser one comes never goes below. A front slot is a queue: slots stack.
 ghost use mathlib.Core.Path.{_≡_};
 ghost use mathlib.Core.Bool.{cond};
 ghost use Prim.Native.Nat.{_+_};
