@@ -25,14 +25,6 @@ use Rattle.queue.proofs.Bags.{shuffled-two}
 use Rattle.queue.proofs.Holes.{key-of}
 use Rattle.queue.proofs.Ranks.{upto-self, upto-turned, upto-trans, upto-at}
 
--- what two calls said of the next is the same
-pub both-next : {X : Type 0} (o p next : Option X) → o ≡ next → p ≡ next → o ≡ p
-both-next o p next a b = a ∙ sym b
-
--- one more slot than below
-pub one-more : (a b : ℕ) → a ≡ b → a + 1 ≡ b + 1
-one-more a b e = ap (λ n. n + 1) e
-
 module _ {K V : Type 0} {rank : K → K → Ordering} (law : Lawful rank) where
   -- what does not come after x comes after none of those that x does not come after
   pub all-upto : (e x : Element K V) (xs : List (Element K V)) → UpTo rank (e .key) (x .key) → All (λ y. UpTo rank (x .key) (y .key)) xs → All (λ y. UpTo rank (e .key) (y .key)) xs

@@ -1,12 +1,13 @@
-use mathlib.Core.Path.{_≡_, refl, subst, _∙_}
+use mathlib.Core.Path.{_≡_, refl, subst}
 use Prim.Native.Nat.{_+_}
 use Rattle.std.specs.declared.option.Option.{Option}
 use Rattle.std.specs.declared.option.Option.the-variants.{Some}
 use Rattle.queue.specs.Waiting.{element, Put, Taken}
 use Rattle.queue.specs.declared.Element.{Element}
 use Rattle.queue.specs.declared.front.FrontSlot.{FrontSlot}
+use Rattle.queue.proofs.Equal.{through, both, one-more}
 use Rattle.queue.proofs.Ranks.{upto-told, after-told}
-use Rattle.queue.proofs.Fronting.{one-more, both-next, two-kept, two-put, slot-kept, slot-put, refill-kept, refill-same, refill-put}
+use Rattle.queue.proofs.Fronting.{two-kept, two-put, slot-kept, slot-put, refill-kept, refill-same, refill-put}
 use Rattle.queue.proofs.front.FrontSlotQueue.put.Needs as need
 
 abbrev remade : {K V Q : Type 0} → Option (Element K V) → Q → FrontSlot K V Q
@@ -43,7 +44,7 @@ returns-then-is-after g c =
     let ys = q .waiting (c .take-self .last .self) in
     let zs = q .waiting (c .put-then-is-after .last .self) in
     let e = element (c .args .key) (c .args .carried) in
-    let is = both-next o (Some x) (q .next (s .below)) (c .take-self .ensures .next) (c .in-Some-look .ensures tt .next) in
+    let is = both o (Some x) (q .next (s .below)) (c .take-self .ensures .next) (c .in-Some-look .ensures tt .next) in
     let t = subst (λ v. Taken xs ys v) is (c .take-self .ensures .taken) in
     let p = subst (λ n. Put ys n e zs r) (c .take-self .ensures .room) (c .put-then-is-after .ensures .put) in
     let fits = q .fits (s .below) (c .pre .0) in
@@ -52,7 +53,7 @@ returns-then-is-after g c =
         c .put-then-is-after .ensures .kept,
         refill-kept law (s .slot) o x e (c .in-None .is) is xs ys zs room r t p (c .in-Some-look .ensures tt .least) (after-told law (e .key) (x .key) (c .if-is-after .ensures tt)),
       );
-      room = one-more (q .room (c .put-then-is-after .last .self)) room (c .put-then-is-after .ensures .room ∙ c .take-self .ensures .room);
+      room = one-more (q .room (c .put-then-is-after .last .self)) room (through (q .room (c .put-then-is-after .last .self)) (q .room (c .take-self .last .self)) room (c .put-then-is-after .ensures .room) (c .take-self .ensures .room));
       same = refill-same law (s .slot) o x e (c .in-None .is) is xs ys zs room r t p fits (λ _. remade o (c .put-then-is-after .last .self) ≡ s);
       put = refill-put law (s .slot) o x e (c .in-None .is) is xs ys zs room r t p fits;
     }
