@@ -3,7 +3,7 @@
 // Nothing here allocates; a sweep that is written over `Queue` works with every one of them.
 ghost use mathlib.Core.Path.{_≡_};
 ghost use mathlib.Core.List.{List, []};
-ghost use Prim.Native.Nat.{ℕ, min, _-_, _^_, _≤_, _<_};
+ghost use Prim.Native.Nat.{ℕ, min, _-_, _^_, _≤_};
 ghost use lib.ListN.{length};
 ghost use lib.Dec.{eqb};
 ghost use Rattle.std.specs.declared.cmp.Ordering.{Ordering};
