@@ -1,0 +1,7 @@
+pub mod Equal
+pub mod Bags
+pub mod Ranks
+pub mod Holes
+pub mod Heaps
+pub mod Falling
+pub mod Fronting
