@@ -5,3 +5,6 @@ mod texts;
 
 #[cfg(test)]
 mod written;
+
+#[cfg(test)]
+mod normalized;
