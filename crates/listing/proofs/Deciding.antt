@@ -17,7 +17,7 @@ use Rattle.listing.specs.Settings.{settings}
 use Rattle.listing.specs.Meaning.{Decided}
 use Rattle.listing.specs.Tests as test
 use Rattle.listing.proofs.Counting.{counted}
-use Rattle.listing.proofs.Walk.{names-node, names-eq}
+use Rattle.listing.proofs.Walk.{lev, num, names-node, names-eq}
 
 module _ {P Q : Type 0} (a b : Bool) (p : Decides a P) (q : Decides b Q) where
   pub both : Decides (a && b) (P × Q)
@@ -54,16 +54,6 @@ always = ((λ e. tt), (λ h. refl))
 
 nothing : Decides false ⊥
 nothing = ((λ e. let z : _≡_ {A = ℕ} 0 1 = cc in omega arith), (λ h. absurd h))
-
-abbrev lev : Target → ℕ
-lev (Node l k) = l
-lev False = 0
-lev True = 0
-
-abbrev num : Target → ℕ
-num (Node l k) = k
-num False = 0
-num True = 0
 
 -- two targets of different kinds
 abbrev Apart : Target → Target → Type 0

@@ -23,12 +23,13 @@ Choice = ℕ → Bool
 abbrev pub Same : List Record → Target → List Record → Target → Type 0
 Same xs t ys u = (s : Choice) → walk xs s t ≡ walk ys s u
 
-abbrev lev : Target → ℕ
+-- a node's level and number
+abbrev pub lev : Target → ℕ
 lev (Node l k) = l
 lev False = 0
 lev True = 0
 
-abbrev num : Target → ℕ
+abbrev pub num : Target → ℕ
 num (Node l k) = k
 num False = 0
 num True = 0

@@ -18,23 +18,13 @@ use Rattle.listing.specs.Members.{In}
 use Rattle.listing.specs.Listing.{node, names, child, Within, Above, Numbered, Targeted}
 use Rattle.listing.specs.Tests as test
 use Rattle.listing.proofs.Deciding as decides
-use Rattle.listing.proofs.Walk.{Ahead, node-level, node-number, names-node, names-not}
+use Rattle.listing.proofs.Walk.{lev, num, Ahead, node-level, node-number, names-node, names-not}
 use Rattle.listing.proofs.Rules.{Ordered, ordered}
 use Rattle.reduce.specs.declared.row.Row.{Row}
 use Rattle.reduce.specs.Rows.{given}
 use Rattle.reduce.specs.Breaks.{First, Mistargeted}
 use Rattle.reduce.specs.Placing.{place-of, placing, place-record, place-records, placed-row, At-place, Kept-target, Kept-targets}
 use Rattle.reduce.proofs.Breaking.{stable, in-nth, nth-in, nth-bound, nth-same}
-
-abbrev lev : Target → ℕ
-lev (Node l k) = l
-lev False = 0
-lev True = 0
-
-abbrev num : Target → ℕ
-num (Node l k) = k
-num False = 0
-num True = 0
 
 -- earlier places have earlier nodes
 pub ahead-at : (rs : List Record) → Ordered rs → (i j : ℕ) (x y : Record) → i < j → nth rs i ≡ Some x → nth rs j ≡ Some y → Ahead x y

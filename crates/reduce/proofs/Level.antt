@@ -22,7 +22,8 @@ use Rattle.listing.specs.Listing.{node, Within, Above, Rises}
 use Rattle.listing.proofs.Walk.{Chain}
 use Rattle.reduce.specs.declared.row.Row.{Row}
 use Rattle.reduce.specs.Reduction.{Copies, Replaced, Replaces, Reduces, Placed}
-use Rattle.reduce.specs.Rows.{zero-row, no-row, entry-of, given, kept, image-of, same-target, move-row, move-rows, fresh, mark, number-rows, outcome, imaged, put-image, write-back}
+use Rattle.listing.specs.Tests.{same-target}
+use Rattle.reduce.specs.Rows.{zero-row, no-row, entry-of, given, kept, image-of, move-row, move-rows, fresh, mark, number-rows, outcome, imaged, put-image, write-back}
 use Rattle.reduce.specs.Sorts.{Alike, Ascending}
 use Rattle.reduce.proofs.Inner.{placed-le}
 use Rattle.reduce.proofs.Extend.{Block, Climbs, block-level, extend}

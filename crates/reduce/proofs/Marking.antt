@@ -19,6 +19,7 @@ use Rattle.listing.specs.declared.Target.the-variants.{Node, False, True}
 use Rattle.listing.specs.declared.Record.{Record}
 use Rattle.listing.specs.Members.{In}
 use Rattle.listing.specs.Listing.{node, child, Within, Above, Targeted, Aims, Reached, Aimed}
+use Rattle.listing.proofs.Walk.{num}
 use Rattle.listing.proofs.Rules.{Ordered}
 use Rattle.reduce.specs.declared.row.Row.{Row}
 use Rattle.reduce.specs.Rows.{no-row, given}
@@ -28,11 +29,6 @@ use Rattle.reduce.specs.Breaks.{First, Unaimed}
 use Rattle.reduce.specs.Placing.{place-of, placing, placed-row, At-place}
 use Rattle.reduce.proofs.Breaking.{in-nth, nth-in, nth-bound, nth-same}
 use Rattle.reduce.proofs.Finding.{ahead-at, place-is}
-
-abbrev num : Target → ℕ
-num (Node l k) = k
-num False = 0
-num True = 0
 
 -- all but the mark of a row at a place
 pub getD-bare : (rows : List Row) (k : ℕ) → getD (map bare rows) k no-row ≡ bare (getD rows k no-row)

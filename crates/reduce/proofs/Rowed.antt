@@ -6,7 +6,7 @@ use mathlib.Core.Logic.{_⊎_, inl, inr, ⊎-elim}
 use Prim.Native.Nat.{ℕ, _+_, _<_, _≤_}
 use native.Mathlib.Omega.{arith}
 use lib.Dec.{eqb}
-use Rattle.std.proofs.shelf.Tests.{eq-eqb, eqb-true, and-parts, and-from, cases-bool, cond-true, cond-false}
+use Rattle.std.proofs.shelf.Tests.{eq-eqb, eqb-true, and-parts, and-from, cases-bool, cond-true, cond-false, both-ways}
 use Rattle.listing.specs.declared.Target.{Target}
 use Rattle.listing.specs.declared.Target.the-variants.{Node, False, True}
 use Rattle.listing.specs.declared.Record.{Record}
@@ -14,7 +14,9 @@ use Rattle.listing.specs.Members.{In}
 use Rattle.listing.specs.Listing.{node, Within, Above, Before, Rises}
 use Rattle.listing.proofs.Order.{rises-irr, rises-trans, rises-move}
 use Rattle.reduce.specs.declared.row.Row.{Row}
-use Rattle.reduce.specs.Rows.{zero-row, entry-of, kept, same-target, like, fresh, mark, number-rows, outcome}
+use Rattle.listing.specs.Tests.{same-target}
+use Rattle.listing.proofs.Deciding as decides
+use Rattle.reduce.specs.Rows.{zero-row, entry-of, kept, like, fresh, mark, number-rows, outcome}
 use Rattle.reduce.specs.Sorts.{Alike, Steps, Onwards, Ascending}
 use Rattle.reduce.proofs.Extend.{Block, Climbs}
 
@@ -24,26 +26,16 @@ On r [] = ⊥
 On r (q ∷ rs) = (r ≡ q) ⊎ On r rs
 
 pub same-target-eq : (t u : Target) → same-target t u ≡ true → t ≡ u
-same-target-eq (Node a i) (Node b j) e = let p = and-parts (eqb a b) (eqb i j) e in ap₂ Node (eqb-true _ _ (p .0)) (eqb-true _ _ (p .1))
-same-target-eq (Node a i) False e = cc
-same-target-eq (Node a i) True e = cc
-same-target-eq False (Node b j) e = cc
-same-target-eq False False e = refl
-same-target-eq False True e = cc
-same-target-eq True (Node b j) e = cc
-same-target-eq True False e = cc
-same-target-eq True True e = refl
+same-target-eq t u e = decides.same-target t u .0 e
 
-pub same-target-refl : (t : Target) → same-target t t ≡ true
-same-target-refl (Node a i) = and-from _ _ (eq-eqb a a refl) (eq-eqb i i refl)
-same-target-refl False = refl
-same-target-refl True = refl
+pub same-target-is : (t u : Target) → t ≡ u → same-target t u ≡ true
+same-target-is t u e = decides.same-target t u .1 e
 
 true-not-false : _≡_ {A = Bool} true false → ⊥
 true-not-false e = let z : _≡_ {A = ℕ} 0 1 = cc in omega arith
 
 pub same-target-ne : (t u : Target) → same-target t u ≡ false → t ≡ u → ⊥
-same-target-ne t u e f = true-not-false (sym (same-target-refl t) ∙ ap (same-target t) f ∙ e)
+same-target-ne t u e f = both-ways (same-target t u) e (same-target-is t u f)
 
 pub same-target-not : (t u : Target) → (t ≡ u → ⊥) → same-target t u ≡ false
 same-target-not t u h = ⊎-elim (λ e. absurd (h (same-target-eq t u e))) (λ e. e) (cases-bool (same-target t u))
@@ -54,9 +46,6 @@ not-true false e = refl
 
 not-false : (b : Bool) → b ≡ false → not b ≡ true
 not-false b e = ap not e
-
-same-target-is : (t u : Target) → t ≡ u → same-target t u ≡ true
-same-target-is t u e = ap (same-target t) (sym e) ∙ same-target-refl t
 
 like-from : (p r : Row) → Alike p r → like p r ≡ true
 like-from p r a = and-from (same-target (p .low) (r .low)) (same-target (p .high) (r .high)) (same-target-is (p .low) (r .low) (a .0)) (same-target-is (p .high) (r .high) (a .1))

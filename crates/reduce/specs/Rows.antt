@@ -8,6 +8,7 @@ use lib.ListN.{getD, set}
 use Rattle.listing.specs.declared.Target.{Target}
 use Rattle.listing.specs.declared.Target.the-variants.{Node, False, True}
 use Rattle.listing.specs.declared.Record.{Record}
+use Rattle.listing.specs.Tests.{same-target}
 use Rattle.reduce.specs.declared.row.Row.{Row}
 
 abbrev pub zero-row : Row
@@ -36,17 +37,6 @@ abbrev pub image-of : List Row → Target → Target
 image-of rows (Node l p) = getD rows p no-row .image
 image-of rows False = False
 image-of rows True = True
-
-abbrev pub same-target : Target → Target → Bool
-same-target (Node a i) (Node b j) = eqb a b && eqb i j
-same-target (Node a i) False = false
-same-target (Node a i) True = false
-same-target False (Node b j) = false
-same-target False False = true
-same-target False True = false
-same-target True (Node b j) = false
-same-target True False = false
-same-target True True = true
 
 -- a row with the images of its targets, and the place k that it stands at
 abbrev pub move-row : (Target → Target) → ℕ → Row → Row

@@ -1,7 +1,8 @@
 ghost use mathlib.Core.Path.{_≡_};
 ghost use mathlib.Core.Bool.{_&&_};
 ghost use Rattle.std.specs.Options.{SomeBy};
-ghost use Rattle.reduce.specs.Rows.{entry-of, same-target, like, fresh, outcome};
+ghost use Rattle.listing.specs.Tests.{same-target};
+ghost use Rattle.reduce.specs.Rows.{entry-of, like, fresh, outcome};
 ghost use Rattle.reduce.specs.Ranks.{rank-target, rank-row};
 
 use std::cmp::Ordering;
@@ -36,27 +37,27 @@ impl Row {
     }
 }
 
-pub fn same_target(a: Target, b: Target) -> bool
+pub(crate) fn same_target(a: Target, b: Target) -> bool
     ensures { λ r. ⌜ r ≡ same-target a b ⌝ }
 {
     a == b
 }
 
-pub fn rank_target(a: Target, b: Target) -> Ordering
+pub(crate) fn rank_target(a: Target, b: Target) -> Ordering
     ensures { λ r. ⌜ r ≡ rank-target a b ⌝ }
 {
     a.cmp(&b)
 }
 
 // Whether r's targets differ from each other and from those of p, the row before it.
-pub fn is_fresh(p: Row, r: Row) -> bool
+pub(crate) fn is_fresh(p: Row, r: Row) -> bool
     ensures { λ b. ⌜ b ≡ fresh p r ⌝ }
 {
     !same_target(r.low, r.high) && !(same_target(p.low, r.low) && same_target(p.high, r.high))
 }
 
 // What a numbered row is replaced by.
-pub fn outcome_of(t: Row) -> Target
+pub(crate) fn outcome_of(t: Row) -> Target
     ensures { λ r. ⌜ r ≡ outcome t ⌝ }
 {
     if same_target(t.low, t.high) {
