@@ -9,11 +9,14 @@ ghost use lib.Dec.{eqb};
 ghost use Rattle.std.specs.declared.cmp.Ordering.{Ordering};
 ghost use Rattle.std.specs.declared.option.Option.{Option};
 ghost use Rattle.std.specs.Keys as std-keys;
-ghost use Rattle.std.specs.Orderings.{isGt};
+ghost use Rattle.std.specs.Options.{SomeBy};
+ghost use Rattle.std.specs.Orderings.{isEq, isGt};
 ghost use Rattle.std.specs.Vec.{refused};
 ghost use Rattle.queue.specs.Rank.{Lawful, unsigned-lawful};
 ghost use Rattle.queue.specs.Waiting.{element, Least, Put, Taken};
 ghost use Rattle.queue.specs.declared.Element.{Element};
+
+use std::cmp::Ordering;
 
 pub mod front;
 pub mod heap;
@@ -44,13 +47,40 @@ pub trait Key: Ord + Copy {
     law says: { (x y : Self) (r : Ordering) → Self·Ord .orders x y r → r ≡ rank x y };
 }
 
+pub impl<K: Key, V: Copy> PartialEq<Element<K, V>> for Element<K, V> as ElementPartialEq {
+    ghost equals = { λ a b r. r ≡ isEq (K·Key .rank (a .key) (b .key)) };
+
+    /// Whether the two tie.
+    fn eq(&self, other: &Element<K, V>) -> bool {
+        self.cmp(other).is_eq()
+    }
+}
+
+pub impl<K: Key, V: Copy> Eq for Element<K, V> as ElementEq {}
+
+pub impl<K: Key, V: Copy> PartialOrd<Element<K, V>> for Element<K, V> as ElementPartialOrd {
+    ghost compares = { λ a b o. SomeBy o (λ r. r ≡ K·Key .rank (a .key) (b .key)) };
+
+    fn partial_cmp(&self, other: &Element<K, V>) -> Option<Ordering> {
+        Some(self.cmp(other))
+    }
+}
+
+pub impl<K: Key, V: Copy> Ord for Element<K, V> as ElementOrd {
+    ghost orders = { λ a b r. r ≡ K·Key .rank (a .key) (b .key) };
+
+    fn cmp(&self, other: &Element<K, V>) -> Ordering {
+        self.key.cmp(&other.key)
+    }
+}
+
 impl<K: Key, V: Copy> Element<K, V> {
     /// Whether this element comes after the other one, which it does where its key is the greater.
     /// Costs one comparison of keys.
     pub fn is_after(&self, other: &Element<K, V>) -> bool
         ensures { λ r. ⌜ r ≡ isGt (K·Key .rank (now (self .entry) .key) (now (other .entry) .key)) ⌝ }
     {
-        self.key.cmp(&other.key).is_gt()
+        self.cmp(other).is_gt()
     }
 }
 
