@@ -1,7 +1,7 @@
 -- From a text that is loaded and written to the normal text.
 use mathlib.Core.Path.{_≡_, refl, sym, ap, _∙_, subst, subst⁻¹}
 use mathlib.Core.List.{List, _++_}
-use Prim.Native.Nat.{ℕ, _≤_, _<_}
+use Prim.Native.Nat.{ℕ, _+_, _*_, _≤_, _<_}
 use native.Mathlib.Omega.{arith}
 use lib.ListN.{length, take, drop}
 use Rattle.std.proofs.shelf.Lists.{take-at}
@@ -21,15 +21,15 @@ use Rattle.reduce.specs.declared.loading.Loaded.{Loaded}
 use Rattle.reduce.specs.Loading.{Spaces, Loads}
 use Rattle.normalizing.specs.Texts.{Made}
 
--- what `write` says of a part of the records
-pub front : (n : ℕ) (root : Target) (xs ys : List Record) (before after : List ℕ) (P : Type 0) (r : Result ℕ WriteFault) → xs ≡ ys →
-    Cases r (λ len. Wrote n root xs before after len) (λ _. P × (after ≡ before)) → Cases r (λ len. Opens-again n root xs (take len after)) (λ _. Unit {0}) →
-    Cases r (λ len. Wrote n root ys before after len × Opens-again n root ys (take len after)) (λ _. after ≡ before)
-front n root xs ys before after P (Ok len) e w a = subst (λ (zs : List Record). Wrote n root zs before after len × Opens-again n root zs (take len after)) e (w, a)
-front n root xs ys before after P (Err f) e w a = w .1
+-- what `write` says of the first k records
+pub front : (n : ℕ) (root : Target) (xs ys : List Record) (k : ℕ) (before after : List ℕ) (r : Result ℕ WriteFault) → xs ≡ ys → length ys ≡ k →
+    Cases r (λ len. Wrote n root xs before after len) (λ _. (length before < 21 + 31 * length xs) × (after ≡ before)) → Cases r (λ len. Opens-again n root xs (take len after)) (λ _. Unit {0}) →
+    Cases r (λ len. Wrote n root ys before after len × Opens-again n root ys (take len after)) (λ _. (length before < 21 + 31 * k) × (after ≡ before))
+front n root xs ys k before after (Ok len) e l w a = subst (λ (zs : List Record). Wrote n root zs before after len × Opens-again n root zs (take len after)) e (w, a)
+front n root xs ys k before after (Err f) e l w a = (omega (arith, w .0, ap length e), w .1)
 
 -- what was loaded, for the listing that the bytes tell
-loads-of : (input : List ℕ) (t : Text) (s : Spaces) (d : Loaded) (n : ℕ) → Opened input t → n ≡ t .n → Loads n (t .n) (t .root) (listed-of t) s (Ok d) → Loads (facts-of input) (facts-of input) (root-of input) (records-of input) s (Ok d)
+pub loads-of : (input : List ℕ) (t : Text) (s : Spaces) (d : Loaded) (n : ℕ) → Opened input t → n ≡ t .n → Loads n (t .n) (t .root) (listed-of t) s (Ok d) → Loads (facts-of input) (facts-of input) (root-of input) (records-of input) s (Ok d)
 loads-of input t s d n o e h =
     subst (λ (m : ℕ). Loads m (facts-of input) (root-of input) (records-of input) s (Ok d)) (e ∙ o .facts)
       (subst (λ (m : ℕ). Loads n m (root-of input) (records-of input) s (Ok d)) (o .facts)

@@ -14,7 +14,7 @@ use Rattle.text.specs.Layout.{facts-of, root-of, records-of, text-fault}
 use Rattle.text.specs.declared.faults.WriteFault.{WriteFault}
 use Rattle.text.specs.Writing.{Wrote, Tells, Reported}
 use Rattle.reduce.specs.declared.loading.Loaded.{Loaded}
-use Rattle.reduce.specs.Loading.{Spaces, Fitting, Loads}
+use Rattle.reduce.specs.Loading.{Spaces, Untouched, Fitting, Loads}
 use Rattle.normalizing.specs.declared.faults.NormalFault.{NormalFault}
 use Rattle.normalizing.specs.declared.faults.NormalFault.the-variants as fault
 use Rattle.normalizing.specs.Faults.{told}
@@ -34,14 +34,20 @@ pub record Made (input : List ℕ) (s : Spaces) (before after : List ℕ) (len :
   pub wrote : Wrote (facts-of input) root records before after len
   pub tells : Tells (facts-of input) root records (take len after)
 
+-- the text's listing is loaded, and the output is too short for the normal listing's text
+pub record Unwritten (input : List ℕ) (s : Spaces) (before : List ℕ) : Type 0 where
+  pub told : Loaded
+  pub loaded : Loads (facts-of input) (facts-of input) (root-of input) (records-of input) s (Ok told)
+  pub lacks : length before < 21 + 31 * told .count
+
 -- what is answered for an input, the caller's work space and output: the first fault, in the order told, and then the
 -- output is as it was, or the normal text
 abbrev pub Normalized : List ℕ → Spaces → List ℕ → List ℕ → Result ℕ NormalFault → Type 0
-Normalized input s before after (Err fault.Input) = (15986 < length input) × (after ≡ before)
-Normalized input s before after (Err (fault.Text f)) = (length input ≤ 15986) × (text-fault input ≡ Some f) × (after ≡ before)
-Normalized input s before after (Err fault.Facts) = (length input ≤ 15986) × (text-fault input ≡ None) × (Facts (facts-of input) → ⊥) × (after ≡ before)
+Normalized input s before after (Err fault.Input) = (15986 < length input) × Untouched s × (after ≡ before)
+Normalized input s before after (Err (fault.Text f)) = (length input ≤ 15986) × (text-fault input ≡ Some f) × Untouched s × (after ≡ before)
+Normalized input s before after (Err fault.Facts) = (length input ≤ 15986) × (text-fault input ≡ None) × (Facts (facts-of input) → ⊥) × Untouched s × (after ≡ before)
 Normalized input s before after (Err (fault.Load f)) = Readable input × Loads (facts-of input) (facts-of input) (root-of input) (records-of input) s (Err f) × (after ≡ before)
-Normalized input s before after (Err (fault.Write f)) = Readable input × (after ≡ before)
+Normalized input s before after (Err (fault.Write f)) = Readable input × Unwritten input s before × (after ≡ before)
 Normalized input s before after (Ok len) = Readable input × Made input s before after len
 
 -- what is put out: the normal text, or the line of the fault; an output too short for that line stays as it was

@@ -1,7 +1,7 @@
 // From a text's bytes to its normal text's bytes.
 
 ghost use mathlib.Core.Path.{_≡_};
-ghost use Prim.Native.Nat.{_≤_};
+ghost use Prim.Native.Nat.{_+_, _*_, _<_, _≤_};
 ghost use lib.ListN.{length, take};
 ghost use Rattle.std.specs.Results.{Cases as ByOk};
 ghost use Rattle.std.specs.declared.result.Result.the-variants.{Err};
@@ -70,7 +70,7 @@ fn print_fault(fault: NormalFault, output: &mut [u8]) -> Result<usize, WriteFaul
 // Writes the text of the listing whose records stand in front.
 fn write_front(n: u16, loaded: Loaded, records: &[Record], output: &mut [u8]) -> Result<usize, WriteFault>
     requires { ⌜ loaded .count ≤ length (now records) ⌝ }
-    ensures { λ r. ⌜ ByOk r (λ len. Wrote n (loaded .root) (take (loaded .count) (now (records .entry))) (now (output .entry)) (now (output .exit)) len × Opens-again n (loaded .root) (take (loaded .count) (now (records .entry))) (take len (now (output .exit)))) (λ _. now (output .exit) ≡ now (output .entry)) ⌝ }
+    ensures { λ r. ⌜ ByOk r (λ len. Wrote n (loaded .root) (take (loaded .count) (now (records .entry))) (now (output .entry)) (now (output .exit)) len × Opens-again n (loaded .root) (take (loaded .count) (now (records .entry))) (take len (now (output .exit)))) (λ _. (length (now (output .entry)) < 21 + 31 * loaded .count) × (now (output .exit) ≡ now (output .entry))) ⌝ }
 {
     let count = loaded.count;
     write(&Records { n, root: loaded.root, records: &records[0..count] }, output)

@@ -52,8 +52,9 @@ fn unaimed_place<S: Source>(source: &S, rows: &mut [Row]) -> Option<usize>
     aim_break(rows)
 }
 
-/// The first rule that a source breaks, with the record's place; else the source's listing keeps the rules, and
-/// the rows, one a record, hold it with places for numbers. Public for the load above, which has those rows.
+// The first rule that a source breaks, with the record's place; else the source's listing keeps the rules, and
+// the rows, one a record, hold it with places for numbers. Where a rule is broken the rows hold what they hold: the
+// load clears them.
 pub fn check_rules<S: Source>(source: &S, rows: &mut [Row]) -> Result<(), Break>
     requires few { ⌜ length (listed (now source)) < 2 ^ 32 ⌝ }
     requires each { ⌜ length (now rows) ≡ length (listed (now source)) ⌝ }

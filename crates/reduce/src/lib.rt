@@ -1,7 +1,7 @@
 // From rows to the normal form: work rows, the rule check, reduction, and the core of loading a listing.
 
 mod arrange;
-pub mod checking;
+mod checking;
 pub mod faults;
 pub mod loading;
 mod marks;
