@@ -1,7 +1,7 @@
 // The lines that are printed.
 
-use listing::reports::Report;
 use listing::Target;
+use listing::reports::Report;
 use std::error::AnyError;
 use text::summary::Summary;
 
@@ -20,7 +20,10 @@ pub fn print_fault(rt: &LibcRuntime, report: Report) -> Result<(), AnyError> {
     let place = report.place;
     let detail = report.detail;
     let fault = words(number);
-    println!(rt, "fault {number}: {fault} (place {place}, detail {detail})")?;
+    println!(
+        rt,
+        "fault {number}: {fault} (place {place}, detail {detail})"
+    )?;
     Ok(())
 }
 

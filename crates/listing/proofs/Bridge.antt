@@ -23,8 +23,8 @@ pub near : (n : ℕ) (rs : List Record) → Levelled n rs → (s z : Choice) →
 near n [] h s z e t = refl
 near n (r ∷ rs) h s z e t =
     ap₂ (λ x y. cond (names t r) x y)
-      (near n rs (λ q m. h q (inr m)) s z e (child (s (r .level)) r) ∙ ap (λ b. walk rs z (child b r)) (e (r .level) (h r (inl refl))))
-      (near n rs (λ q m. h q (inr m)) s z e t)
+    (near n rs (λ q m. h q (inr m)) s z e (child (s (r .level)) r) ∙ ap (λ b. walk rs z (child b r)) (e (r .level) (h r (inl refl))))
+    (near n rs (λ q m. h q (inr m)) s z e t)
 
 -- the first n facts of a choice
 abbrev pub first : ℕ → Choice → List Bool
@@ -46,16 +46,18 @@ everywhere n xs t ys u hx hy h s =
     sym (near n ys hy s (fact (first n s)) (fact-first n s) u)
 
 pub told-apart : (t u : Target) (r : Bool) → Decides r (t ≡ u) → Told-apart t u r
-told-apart t u r d n root rs ls nm ot ou =
-    ((λ e s len. ap (value rs s) (d .0 e)),
-     (λ h. d .1 (unlike rs (chain n root rs ls) (proper n root rs ls nm) t u ot ou (everywhere n rs t rs u (ls .levelled) (ls .levelled) h))))
+told-apart t u r d n root rs ls nm ot ou = (
+  (λ e s len. ap (value rs s) (d .0 e)),
+  (λ h. d .1 (unlike rs (chain n root rs ls) (proper n root rs ls nm) t u ot ou (everywhere n rs t rs u (ls .levelled) (ls .levelled) h))),
+)
 
 pub canonical : (root : Target) (xs : List Record) (root′ : Target) (ys : List Record) (r : Bool) → Decides r ((root ≡ root′) × (xs ≡ ys)) → Canonical root xs root′ ys r
-canonical root xs root′ ys r d n lx nx ly ny =
-    ((λ e s len. ap₂ (λ rs t. value rs s t) (d .0 e .1) (d .0 e .0)),
-     (λ h.
-        let w = everywhere n xs root ys root′ (lx .levelled) (ly .levelled) h in
-        d .1 (same-roots n root xs lx nx root′ ys ly ny w, same-lists n root xs lx nx root′ ys ly ny w)))
+canonical root xs root′ ys r d n lx nx ly ny = (
+  (λ e s len. ap₂ (λ rs t. value rs s t) (d .0 e .1) (d .0 e .0)),
+  (λ h.
+      let w = everywhere n xs root ys root′ (lx .levelled) (ly .levelled) h in
+      d .1 (same-roots n root xs lx nx root′ ys ly ny w, same-lists n root xs lx nx root′ ys ly ny w)),
+)
 
 pub least : (root : Target) (xs : List Record) → Least root xs
 least root xs n root′ ys lx nx ly h = shortest n root xs lx nx root′ ys ly (everywhere n xs root ys root′ (lx .levelled) (ly .levelled) h)

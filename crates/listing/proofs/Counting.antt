@@ -92,10 +92,10 @@ once-each : (n : ℕ) → Distinct (settings n)
 once-each zero = ((λ m. m), tt)
 once-each (suc n) =
     distinct-append (map (λ z. false ∷ z) (settings n)) (map (λ z. true ∷ z) (settings n)) (distinct-led false (settings n) (once-each n)) (distinct-led true (settings n) (once-each n))
-      (λ s m k.
-         let v = in-mapped (λ z. false ∷ z) s (settings n) m in
-         let w = in-mapped (λ z. true ∷ z) s (settings n) k in
-         apart (v .0) (w .0) (sym (v .2) ∙ w .2))
+    (λ s m k.
+    let v = in-mapped (λ z. false ∷ z) s (settings n) m in
+    let w = in-mapped (λ z. true ∷ z) s (settings n) k in
+    apart (v .0) (w .0) (sym (v .2) ∙ w .2))
 
 pub counted : (n : ℕ) → Counted n
 counted n = record { count = count-settings n; every = every-setting n; only = only-settings n; once = once-each n }

@@ -27,17 +27,19 @@ module _ {P Q : Type 0} (a b : Bool) (p : Decides a P) (q : Decides b Q) where
   either = ((λ e. ⊎-elim (λ h. inl (p .0 h)) (λ h. inr (q .0 h)) (or-cases a b e)), (λ h. ⊎-elim (λ x. or-left a b (p .1 x)) (λ y. or-right a b (q .1 y)) h))
 
 pub never : {P : Type 0} (a : Bool) → Decides a P → Decides (not a) (P → ⊥)
-never a p =
-    ((λ e h. let z : true ≡ false = sym (p .1 h) ∙ not-true a e in clash z),
-     (λ h. not-from-false a (⊎-elim (λ e. absurd (h (p .0 e))) (λ e. e) (cases-bool a))))
+never a p = (
+  (λ e h. let z : true ≡ false = sym (p .1 h) ∙ not-true a e in clash z),
+  (λ h. not-from-false a (⊎-elim (λ e. absurd (h (p .0 e))) (λ e. e) (cases-bool a))),
+)
   where
     clash : true ≡ false → ⊥
     clash e = let z : _≡_ {A = ℕ} 0 1 = cc in omega arith
 
 pub whenever : {P Q : Type 0} (a b : Bool) → Decides a P → Decides b Q → Decides (not a || b) (P → Q)
-whenever a b p q =
-    ((λ e h. ⊎-elim (λ n. absurd (never a p .0 n h)) (λ y. q .0 y) (or-cases (not a) b e)),
-     (λ f. ⊎-elim (λ e. or-right (not a) b (q .1 (f (p .0 e)))) (λ e. or-left (not a) b (not-from-false a e)) (cases-bool a)))
+whenever a b p q = (
+  (λ e h. ⊎-elim (λ n. absurd (never a p .0 n h)) (λ y. q .0 y) (or-cases (not a) b e)),
+  (λ f. ⊎-elim (λ e. or-right (not a) b (q .1 (f (p .0 e)))) (λ e. or-left (not a) b (not-from-false a e)) (cases-bool a)),
+)
 
 -- a test decides whatever is equivalent to what it decides
 pub instead : {P Q : Type 0} (a : Bool) → Decides a P → (P → Q) → (Q → P) → Decides a Q
@@ -79,15 +81,15 @@ module _ (p : Record → Bool) (P : Record → Type 0) (d : (r : Record) → Dec
   every [] = ((λ e r m. absurd m), (λ h. refl))
   every (q ∷ rs) =
       instead (p q && test.every p rs) (both (p q) (test.every p rs) (d q) (every rs))
-        (λ h r m. ⊎-elim (λ e. subst⁻¹ P e (h .0)) (h .1 r) m)
-        (λ f. (f q (inl refl), (λ r m. f r (inr m))))
+      (λ h r m. ⊎-elim (λ e. subst⁻¹ P e (h .0)) (h .1 r) m)
+      (λ f. (f q (inl refl), (λ r m. f r (inr m))))
 
   pub some : (rs : List Record) → Decides (test.some p rs) ((r : Record) × In r rs × P r)
   some [] = ((λ e. let z : _≡_ {A = ℕ} 0 1 = cc in absurd (omega arith)), (λ w. absurd (w .1)))
   some (q ∷ rs) =
       instead (p q || test.some p rs) (either (p q) (test.some p rs) (d q) (some rs))
-        (λ c. ⊎-elim (λ h. (q, inl refl, h)) (λ w. (w .0, inr (w .1), w .2)) c)
-        (λ w. ⊎-elim (λ e. inl (subst P e (w .2))) (λ m. inr (w .0, m, w .2)) (w .1))
+      (λ c. ⊎-elim (λ h. (q, inl refl, h)) (λ w. (w .0, inr (w .1), w .2)) c)
+      (λ w. ⊎-elim (λ e. inl (subst P e (w .2))) (λ m. inr (w .0, m, w .2)) (w .1))
 
 named : (t : Target) (r : Record) → Decides (names t r) (node r ≡ t)
 named t r = ((λ e. sym (names-eq t r e)), (λ e. subst (λ u. names u r ≡ true) e (names-node r)))
@@ -112,8 +114,8 @@ levelled n rs = every (λ r. ltb (r .level) n) (λ r. r .level < n) (λ r. less 
 pub next : (p r : Record) → Decides (test.next p r) (Next p r)
 next p r =
     either (eqb (r .level) (p .level) && eqb (r .number) (p .number + 1)) (ltb (p .level) (r .level) && eqb (r .number) 0)
-      (both (eqb (r .level) (p .level)) (eqb (r .number) (p .number + 1)) (equal-numbers (r .level) (p .level)) (equal-numbers (r .number) (p .number + 1)))
-      (both (ltb (p .level) (r .level)) (eqb (r .number) 0) (less (p .level) (r .level)) (equal-numbers (r .number) 0))
+    (both (eqb (r .level) (p .level)) (eqb (r .number) (p .number + 1)) (equal-numbers (r .level) (p .level)) (equal-numbers (r .number) (p .number + 1)))
+    (both (ltb (p .level) (r .level)) (eqb (r .number) 0) (less (p .level) (r .level)) (equal-numbers (r .number) 0))
 
 follows : (p : Record) (rs : List Record) → Decides (test.follows p rs) (Follows p rs)
 follows p [] = always
@@ -129,8 +131,8 @@ target rs l t = both (test.within rs t) (test.above l t) (within rs t) (above l 
 targets : (rs : List Record) (r : Record) → Decides (test.target rs (r .level) (r .low) && test.target rs (r .level) (r .high)) ((b : Bool) → Within rs (child b r) × Above (r .level) (child b r))
 targets rs r =
     instead (test.target rs (r .level) (r .low) && test.target rs (r .level) (r .high))
-      (both (test.target rs (r .level) (r .low)) (test.target rs (r .level) (r .high)) (target rs (r .level) (r .low)) (target rs (r .level) (r .high)))
-      (λ h b. pick h b) (λ f. (f false, f true))
+    (both (test.target rs (r .level) (r .low)) (test.target rs (r .level) (r .high)) (target rs (r .level) (r .low)) (target rs (r .level) (r .high)))
+    (λ h b. pick h b) (λ f. (f false, f true))
   where
     pick : (Within rs (r .low) × Above (r .level) (r .low)) × (Within rs (r .high) × Above (r .level) (r .high)) → (b : Bool) → Within rs (child b r) × Above (r .level) (child b r)
     pick h true = h .1
@@ -165,13 +167,13 @@ before True True = nothing
 rises : (p q : Record) → Decides (test.rises p q) (Rises p q)
 rises p q =
     either (test.before (p .low) (q .low)) (test.same-target (p .low) (q .low) && test.before (p .high) (q .high)) (before (p .low) (q .low))
-      (both (test.same-target (p .low) (q .low)) (test.before (p .high) (q .high)) (same-target (p .low) (q .low)) (before (p .high) (q .high)))
+    (both (test.same-target (p .low) (q .low)) (test.before (p .high) (q .high)) (same-target (p .low) (q .low)) (before (p .high) (q .high)))
 
 rising : (p : Record) (rs : List Record) → Decides (test.rising p rs) (Rising p rs)
 rising p [] = always
 rising p (r ∷ rs) =
     both (not (eqb (p .level) (r .level)) || test.rises p r) (test.rising r rs)
-      (whenever (eqb (p .level) (r .level)) (test.rises p r) (equal-numbers (p .level) (r .level)) (rises p r)) (rising r rs)
+    (whenever (eqb (p .level) (r .level)) (test.rises p r) (equal-numbers (p .level) (r .level)) (rises p r)) (rising r rs)
 
 pub sorted : (rs : List Record) → Decides (test.sorted rs) (Sorted rs)
 sorted [] = always
@@ -183,17 +185,17 @@ tested rs = every (λ r. not (test.same-target (r .low) (r .high))) (λ r. r .lo
 pub is-listing : (n : ℕ) (root : Target) (rs : List Record) → Decides (test.is-listing n root rs) (Listing n root rs)
 is-listing n root rs =
     instead (test.is-listing n root rs)
-      (both (test.rooted root rs) (test.levelled n rs && (test.numbered rs && (test.targeted rs && test.aimed rs))) (rooted root rs)
-      (both (test.levelled n rs) (test.numbered rs && (test.targeted rs && test.aimed rs)) (levelled n rs)
-      (both (test.numbered rs) (test.targeted rs && test.aimed rs) (numbered rs)
-      (both (test.targeted rs) (test.aimed rs) (targeted rs) (aimed rs)))))
-      (λ p. record { rooted = p .0; levelled = p .1 .0; numbered = p .1 .1 .0; targeted = p .1 .1 .1 .0; aimed = p .1 .1 .1 .1 })
-      (λ l. (l .rooted, (l .levelled, (l .numbered, (l .targeted, l .aimed)))))
+    (both (test.rooted root rs) (test.levelled n rs && (test.numbered rs && (test.targeted rs && test.aimed rs))) (rooted root rs)
+    (both (test.levelled n rs) (test.numbered rs && (test.targeted rs && test.aimed rs)) (levelled n rs)
+    (both (test.numbered rs) (test.targeted rs && test.aimed rs) (numbered rs)
+    (both (test.targeted rs) (test.aimed rs) (targeted rs) (aimed rs)))))
+    (λ p. record { rooted = p .0; levelled = p .1 .0; numbered = p .1 .1 .0; targeted = p .1 .1 .1 .0; aimed = p .1 .1 .1 .1 })
+    (λ l. (l .rooted, (l .levelled, (l .numbered, (l .targeted, l .aimed)))))
 
 pub is-normal : (rs : List Record) → Decides (test.is-normal rs) (Normal rs)
 is-normal rs =
     instead (test.is-normal rs) (both (test.tested rs) (test.sorted rs) (tested rs) (sorted rs))
-      (λ p. record { tested = p .0; sorted = p .1 }) (λ l. (l .tested, l .sorted))
+    (λ p. record { tested = p .0; sorted = p .1 }) (λ l. (l .tested, l .sorted))
 
 same-bit : (a b : Bool) → Decides (test.same-bit a b) (a ≡ b)
 same-bit true b = (sym, sym)
@@ -203,9 +205,9 @@ agree-at : (ss : List (List Bool)) (xs : List Record) (t : Target) (ys : List Re
 agree-at [] xs t ys u = ((λ e s m. absurd m), (λ h. refl))
 agree-at (s ∷ ss) xs t ys u =
     instead (test.same-bit (value xs s t) (value ys s u) && test.agree-at ss xs t ys u)
-      (both (test.same-bit (value xs s t) (value ys s u)) (test.agree-at ss xs t ys u) (same-bit (value xs s t) (value ys s u)) (agree-at ss xs t ys u))
-      (λ h z m. ⊎-elim (λ e. subst⁻¹ (λ (v : List Bool). value xs v t ≡ value ys v u) e (h .0)) (h .1 z) m)
-      (λ f. (f s (inl refl), (λ z m. f z (inr m))))
+    (both (test.same-bit (value xs s t) (value ys s u)) (test.agree-at ss xs t ys u) (same-bit (value xs s t) (value ys s u)) (agree-at ss xs t ys u))
+    (λ h z m. ⊎-elim (λ e. subst⁻¹ (λ (v : List Bool). value xs v t ≡ value ys v u) e (h .0)) (h .1 z) m)
+    (λ f. (f s (inl refl), (λ z m. f z (inr m))))
 
 pub agrees : (n : ℕ) (xs : List Record) (t : Target) (ys : List Record) (u : Target) → Decides (test.agrees n xs t ys u) (Agree n xs t ys u)
 agrees n xs t ys u =

@@ -18,7 +18,7 @@ pub walk-node : (rs : List Record) → Chain rs → (s : Choice) (r : Record) �
 walk-node [] ch s r m = absurd m
 walk-node (q ∷ rs) ch s r (inl e) =
     subst⁻¹ (λ (x : Record). walk (q ∷ rs) s (node x) ≡ walk (q ∷ rs) s (child (s (x .level)) x)) e
-      (walk-hit q rs s ∙ sym (walk-within q rs (ch .0) s (child (s (q .level)) q) (ch .1 (s (q .level)))))
+    (walk-hit q rs s ∙ sym (walk-within q rs (ch .0) s (child (s (q .level)) q) (ch .1 (s (q .level)))))
 walk-node (q ∷ rs) ch s r (inr m) =
     walk-within q rs (ch .0) s (node r) (within-node rs r m) ∙
     walk-node rs (ch .3) s r m ∙

@@ -61,8 +61,9 @@ module _ (R : Record → Record → Type 0) where
   no-longer (r ∷ rs) ys a f =
       let w = f r (inl refl) in
       let ih = no-longer rs (without ys (w .0) (w .1)) (a .1) (λ p m.
-            let v = f p (inr m) in
-            (v .0,
-             ⊎-elim (λ e. absurd (a .0 p m (w .0) (w .2) (subst (λ (x : Record). R p x) e (v .2)))) (λ k. k) (without-keeps ys (w .0) (w .1) (v .0) (v .1)),
-             v .2)) in
+      let v = f p (inr m) in (
+        v .0,
+        ⊎-elim (λ e. absurd (a .0 p m (w .0) (w .2) (subst (λ (x : Record). R p x) e (v .2)))) (λ k. k) (without-keeps ys (w .0) (w .1) (v .0) (v .1)),
+        v .2,
+      )) in
       omega (arith, without-length ys (w .0) (w .1))

@@ -32,11 +32,13 @@ module _ (xs : List Record) (cx : Chain xs) (px : Proper xs) (r : Record) (m : I
     where
       below : ((u : Target) → Within ys u → Same xs (node r) ys u → Partner xs ys r) → (v : Target) → Within ys v → Same xs (node r) (p ∷ ys) v → Partner xs (p ∷ ys) r
       below ih v k g = more p ys cy (ih v k (λ s. g s ∙ walk-within p ys (cy .0) s v k))
+
       here : ((u : Target) → Within ys u → Same xs (node r) ys u → Partner xs ys r) → Same xs (node r) (p ∷ ys) (node p) → (r .level ≡ p .level) ⊎ ((r .level < p .level) ⊎ (p .level < r .level)) → Partner xs (p ∷ ys) r
       here ih g (inl e) = (p, inl refl, e, g)
       here ih g (inr (inl l)) = absurd (own-fact xs cx px (p ∷ ys) cy r m (node p) l g)
       here ih g (inr (inr l)) =
           below ih (p .low) (cy .1 false) (λ s. sym (drop-fact (p ∷ ys) cy xs cx p (inl refl) (node r) l (λ z. sym (g z)) false s))
+
       by : ((u : Target) → Within ys u → Same xs (node r) ys u → Partner xs ys r) → (u ≡ node p) ⊎ Within ys u → Partner xs (p ∷ ys) r
       by ih (inl e) = here ih (λ s. h s ∙ ap (walk (p ∷ ys) s) e) (cases-order (r .level) (p .level))
       by ih (inr k) = below ih u k h
@@ -44,8 +46,10 @@ module _ (xs : List Record) (cx : Chain xs) (px : Proper xs) (r : Record) (m : I
 module _ (n : ℕ) (root : Target) (xs : List Record) (lx : Listing n root xs) (nx : Normal xs) (root′ : Target) (ys : List Record) (ly : Listing n root′ ys) (h : Same xs root ys root′) where
   cx : Chain xs
   cx = chain n root xs lx
+
   px : Proper xs
   px = proper n root xs lx nx
+
   cy : Chain ys
   cy = chain n root′ ys ly
 
@@ -58,7 +62,8 @@ module _ (n : ℕ) (root : Target) (xs : List Record) (lx : Listing n root xs) (
           let a′ : p .level < r .level = subst (λ t. Above (p .level) t) e a in
           let w = ih p k (omega arith) in
           descend xs cx px r m ys cy (child b (w .0)) (child-within ys cy (w .0) (w .1) b)
-            (λ s. ap (walk xs s) (sym e) ∙ cofactors xs cx ys cy p k (w .0) (w .1) (w .2) (w .3) b s)
+          (λ s. ap (walk xs s) (sym e) ∙ cofactors xs cx ys cy p k (w .0) (w .1) (w .2) (w .3) b s)
+
       by : ((p : Record) → In p xs → p .level < d → Partner xs ys p) → (root ≡ node r) ⊎ ((p : Record) × In p xs × ((p .low ≡ node r) ⊎ (p .high ≡ node r))) → Partner xs ys r
       by ih (inl e) = descend xs cx px r m ys cy root′ (root-within root′ ys (ly .rooted)) (λ s. ap (walk xs s) (sym e) ∙ h s)
       by ih (inr w) = ⊎-elim (λ e. from ih (w .0) (w .1) false (lx .targeted (w .0) (w .1) false .1) e) (λ e. from ih (w .0) (w .1) true (lx .targeted (w .0) (w .1) true .1) e) (w .2)

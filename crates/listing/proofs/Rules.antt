@@ -70,11 +70,12 @@ ahead-level p q h = omega arith
 
 pub chain-from : (rs : List Record) → Ordered rs → Targeted rs → Chain rs
 chain-from [] o h = tt
-chain-from (x ∷ rs) o h =
-    (o .0,
-     λ b. trim x rs (x .level) (omega arith) (child b x) (h x (inl refl) b .1) (h x (inl refl) b .0),
-     λ b. h x (inl refl) b .1,
-     chain-from rs (o .1) (λ r m b. (trim x rs (r .level) (ahead-level x r (o .0 r m)) (child b r) (h r (inr m) b .1) (h r (inr m) b .0), h r (inr m) b .1)))
+chain-from (x ∷ rs) o h = (
+  o .0,
+  λ b. trim x rs (x .level) (omega arith) (child b x) (h x (inl refl) b .1) (h x (inl refl) b .0),
+  λ b. h x (inl refl) b .1,
+  chain-from rs (o .1) (λ r m b. (trim x rs (r .level) (ahead-level x r (o .0 r m)) (child b r) (h r (inr m) b .1) (h r (inr m) b .0), h r (inr m) b .1)),
+)
 
 rising-all : (p : Record) (rs : List Record) → Ordered (p ∷ rs) → Rising p rs → (r : Record) → In r rs → p .level ≡ r .level → Rises p r
 rising-all p [] o h r m e = absurd m

@@ -54,10 +54,13 @@ module _ (xs ys : List Record) (nx : Numbered xs) (px : Proper xs) (ny : Numbere
 module _ (n : ℕ) (root : Target) (xs : List Record) (lx : Listing n root xs) (nx : Normal xs) (root′ : Target) (ys : List Record) (ly : Listing n root′ ys) (ny : Normal ys) (h : Same xs root ys root′) where
   cx : Chain xs
   cx = chain n root xs lx
+
   px : Proper xs
   px = proper n root xs lx nx
+
   cy : Chain ys
   cy = chain n root′ ys ly
+
   py : Proper ys
   py = proper n root′ ys ly ny
 
@@ -93,7 +96,7 @@ module _ (n : ℕ) (root : Target) (xs : List Record) (lx : Listing n root xs) (
   kids-at : (l : ℕ) → Equal (suc l) → Kids xs ys l
   kids-at l ih r q m k e g b =
       equal-targets l ih (child b r) (child b q) (child-within xs cx r m b) (subst (λ x. Above x (child b r)) e (child-above xs cx r m b)) (child-within ys cy q k b)
-        (cofactors xs cx ys cy r m q k (equal-levels r q m k g) g b)
+      (cofactors xs cx ys cy r m q k (equal-levels r q m k g) g b)
 
   kids-back : (l : ℕ) → Equal (suc l) → Kids ys xs l
   kids-back l ih q r k m e g b =
@@ -135,7 +138,7 @@ module _ (n : ℕ) (root : Target) (xs : List Record) (lx : Listing n root xs) (
   pub same-roots : root ≡ root′
   same-roots =
       unlike ys cy py root root′ (subst (λ v. Within v root) same-lists (root-within root xs (lx .rooted))) (root-within root′ ys (ly .rooted))
-        (λ s. ap (λ v. walk v s root) (sym same-lists) ∙ h s)
+      (λ s. ap (λ v. walk v s root) (sym same-lists) ∙ h s)
 
 module _ (n : ℕ) (root : Target) (xs : List Record) (lx : Listing n root xs) (nx : Normal xs) (root′ : Target) (ys : List Record) (ly : Listing n root′ ys) (h : Same xs root ys root′) where
   abbrev Image : Record → Record → Type 0
@@ -143,13 +146,14 @@ module _ (n : ℕ) (root : Target) (xs : List Record) (lx : Listing n root xs) (
 
   apart : (rs : List Record) → Ordered rs → ((r : Record) → In r rs → In r xs) → Apart Image rs
   apart [] o f = tt
-  apart (r ∷ rs) o f =
-      ((λ p m q a b.
-          let e = unlike xs (chain n root xs lx) (proper n root xs lx nx) (node r) (node p) (within-node xs r (f r (inl refl))) (within-node xs p (f p (inr m))) (λ s. a s ∙ sym (b s)) in
-          omega (arith, o .0 p m, node-level r p e, node-number r p e)),
-       apart rs (o .1) (λ p m. f p (inr m)))
+  apart (r ∷ rs) o f = (
+    (λ p m q a b.
+        let e = unlike xs (chain n root xs lx) (proper n root xs lx nx) (node r) (node p) (within-node xs r (f r (inl refl))) (within-node xs p (f p (inr m))) (λ s. a s ∙ sym (b s)) in
+        omega (arith, o .0 p m, node-level r p e, node-number r p e)),
+    apart rs (o .1) (λ p m. f p (inr m)),
+  )
 
   pub shortest : length xs ≤ length ys
   shortest =
       no-longer Image xs ys (apart xs (ordered xs (lx .numbered)) (λ r m. m))
-        (λ r m. let w = partner n root xs lx nx root′ ys ly h r m in (w .0, w .1, w .3))
+      (λ r m. let w = partner n root xs lx nx root′ ys ly h r m in (w .0, w .1, w .3))

@@ -57,19 +57,22 @@ head-alone r rs ch pr ih u o h = ⊎-elim high level (place r rs (ch .0) u o)
   where
     all : List Record
     all = r ∷ rs
+
     here : In r (r ∷ rs)
     here = inl refl
+
     high : Above (r .level) u → ⊥
     high a =
         let d = drop-fact (r ∷ rs) ch (r ∷ rs) ch r (inl refl) u a h in
         pr .0 (ih (r .low) (r .high) (ch .1 false) (ch .1 true) (same-behind r rs (ch .0) (r .low) (r .high) (ch .1 false) (ch .1 true) (λ s. d false s ∙ sym (d true s))))
+
     level : (q : Record) × In q rs × (node q ≡ u) × (r .level ≡ q .level) → ⊥
     level w =
         let q : Record = w .0 in
         let k : (b : Bool) → child b r ≡ child b q = λ b.
-              ih (child b r) (child b q) (ch .1 b) (child-within rs (ch .3) q (w .1) b)
-                (same-behind r rs (ch .0) (child b r) (child b q) (ch .1 b) (child-within rs (ch .3) q (w .1) b)
-                  (cofactors (r ∷ rs) ch (r ∷ rs) ch r (inl refl) q (inr (w .1)) (w .3) (λ s. h s ∙ ap (walk (r ∷ rs) s) (sym (w .2))) b)) in
+        ih (child b r) (child b q) (ch .1 b) (child-within rs (ch .3) q (w .1) b)
+        (same-behind r rs (ch .0) (child b r) (child b q) (ch .1 b) (child-within rs (ch .3) q (w .1) b)
+        (cofactors (r ∷ rs) ch (r ∷ rs) ch r (inl refl) q (inr (w .1)) (w .3) (λ s. h s ∙ ap (walk (r ∷ rs) s) (sym (w .2))) b)) in
         rises-irr r q (k false) (k true) (pr .1 q (w .1) (w .3))
 
 pub unlike : (rs : List Record) → Chain rs → Proper rs → (t u : Target) → Within rs t → Within rs u → Same rs t rs u → t ≡ u

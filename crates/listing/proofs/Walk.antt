@@ -162,8 +162,8 @@ push rs s false x y = refl
 
 -- one step of a walk, at the record at place i
 pub step-walk : (rs : List Record) (s : Choice) (t t′ : Target) (i : ℕ) (d : Record) → i < length rs →
-  t′ ≡ cond (names t (getD rs i d)) (child (s (getD rs i d .level)) (getD rs i d)) t →
-  walk (drop (i + 1) rs) s t′ ≡ walk (drop i rs) s t
+    t′ ≡ cond (names t (getD rs i d)) (child (s (getD rs i d .level)) (getD rs i d)) t →
+    walk (drop (i + 1) rs) s t′ ≡ walk (drop i rs) s t
 step-walk rs s t t′ i d h e =
     ap (walk (drop (i + 1) rs) s) e ∙ push (drop (i + 1) rs) s (names t (getD rs i d)) (child (s (getD rs i d .level)) (getD rs i d)) t ∙
     sym (at-drop-more (λ xs. walk xs s t) rs i d h)

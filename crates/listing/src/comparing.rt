@@ -4,7 +4,6 @@ ghost use mathlib.Core.Path.{_≡_};
 ghost use Prim.Native.Nat.{ℕ};
 ghost use Rattle.std.specs.Orderings.{Decides};
 ghost use Rattle.listing.specs.Meaning.{Canonical, Least, Decided};
-
 use crate::Record;
 use crate::Target;
 
@@ -27,7 +26,12 @@ pub fn same_records(left: &[Record], right: &[Record]) -> bool
 /// that is so exactly when their values agree at all 2 ^ n settings; and a normal listing has no more
 /// records than any listing by the rules that agrees with it. Whether a listing keeps the rules, and whether it is
 /// normal, is told by tests that compute.
-pub fn same_listing(left_root: Target, left: &[Record], right_root: Target, right: &[Record]) -> bool
+pub fn same_listing(
+    left_root: Target,
+    left: &[Record],
+    right_root: Target,
+    right: &[Record],
+) -> bool
     ensures equal { λ r. ⌜ Decides r ((«left_root» ≡ «right_root») × (now (left .entry) ≡ now (right .entry))) ⌝ }
     ensures canonical { λ r. ⌜ Canonical «left_root» (now (left .entry)) «right_root» (now (right .entry)) r ⌝ }
     ensures least { λ _. ⌜ Least «left_root» (now (left .entry)) ⌝ }
@@ -38,7 +42,13 @@ pub fn same_listing(left_root: Target, left: &[Record], right_root: Target, righ
 }
 
 // Carries the theorems of the normal form: `equal` tells whether the two listings are the same.
-fn canonical(left_root: Target, left: &[Record], right_root: Target, right: &[Record], equal: bool) -> bool
+fn canonical(
+    left_root: Target,
+    left: &[Record],
+    right_root: Target,
+    right: &[Record],
+    equal: bool,
+) -> bool
     requires { ⌜ Decides equal ((«left_root» ≡ «right_root») × (now left ≡ now right)) ⌝ }
     ensures equal { λ r. ⌜ r ≡ equal ⌝ }
     ensures canonical { λ r. ⌜ Canonical «left_root» (now (left .entry)) «right_root» (now (right .entry)) r ⌝ }

@@ -77,7 +77,10 @@ impl Record {
     pub fn node(self) -> Target
         ensures { λ t. ⌜ t ≡ node self ⌝ }
     {
-        Target::Node { level: self.level, number: self.number }
+        Target::Node {
+            level: self.level,
+            number: self.number,
+        }
     }
 
     /// The target where this record's fact is 0 (false) or 1 (true).

@@ -7,7 +7,6 @@ ghost use lib.ListN.{getD};
 ghost use Rattle.listing.specs.Settings.{bit, fact};
 ghost use Rattle.listing.specs.Listing.{value};
 ghost use Rattle.listing.specs.Meaning.{Only-value};
-
 use crate::Record;
 use crate::Target;
 

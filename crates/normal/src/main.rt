@@ -3,8 +3,8 @@
 
 use listing::Record;
 use listing::Target;
-use normalizing::texts::normal_bytes;
 use normalizing::texts::MOST_BYTES;
+use normalizing::texts::normal_bytes;
 use reduce::row::ZERO;
 use std::error::AnyError;
 use std::io::Read;
@@ -13,7 +13,12 @@ use std::io::Write;
 // One row and one record for each record that an input may have.
 const MOST_RECORDS: usize = 515;
 
-const NO_RECORD: Record = Record { level: 0, number: 0, low: Target::False, high: Target::False };
+const NO_RECORD: Record = Record {
+    level: 0,
+    number: 0,
+    low: Target::False,
+    high: Target::False,
+};
 
 fn run(rt: &LibcRuntime) -> Result<(), AnyError> {
     let mut input = Vec::new(rt.alloc());
@@ -21,7 +26,12 @@ fn run(rt: &LibcRuntime) -> Result<(), AnyError> {
     let mut rows = vec![in rt.alloc(); ZERO; MOST_RECORDS]?;
     let mut records = vec![in rt.alloc(); NO_RECORD; MOST_RECORDS]?;
     let mut output = vec![in rt.alloc(); 0u8; MOST_BYTES]?;
-    match normal_bytes(input.as_slice(), rows.as_mut_slice(), records.as_mut_slice(), output.as_mut_slice()) {
+    match normal_bytes(
+        input.as_slice(),
+        rows.as_mut_slice(),
+        records.as_mut_slice(),
+        output.as_mut_slice(),
+    ) {
         Ok(len) => {
             if len <= output.len() {
                 rt.stdout().write_all(&output.as_slice()[0..len])?;

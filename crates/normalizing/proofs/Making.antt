@@ -32,9 +32,9 @@ front n root xs ys k before after (Err f) e l w a = (omega (arith, w .0, ap leng
 pub loads-of : (input : List ℕ) (t : Text) (s : Spaces) (d : Loaded) (n : ℕ) → Opened input t → n ≡ t .n → Loads n (t .n) (t .root) (listed-of t) s (Ok d) → Loads (facts-of input) (facts-of input) (root-of input) (records-of input) s (Ok d)
 loads-of input t s d n o e h =
     subst (λ (m : ℕ). Loads m (facts-of input) (root-of input) (records-of input) s (Ok d)) (e ∙ o .facts)
-      (subst (λ (m : ℕ). Loads n m (root-of input) (records-of input) s (Ok d)) (o .facts)
-        (subst (λ (r : Target). Loads n (t .n) r (records-of input) s (Ok d)) (o .root)
-          (subst (λ (rs : List Record). Loads n (t .n) (t .root) rs s (Ok d)) (o .records) h)))
+    (subst (λ (m : ℕ). Loads n m (root-of input) (records-of input) s (Ok d)) (o .facts)
+    (subst (λ (r : Target). Loads n (t .n) r (records-of input) s (Ok d)) (o .root)
+    (subst (λ (rs : List Record). Loads n (t .n) (t .root) rs s (Ok d)) (o .records) h)))
 
 pub made : (input : List ℕ) (t : Text) (s : Spaces) (d : Loaded) (n : ℕ) (before after : List ℕ) (len : ℕ) → Opened input t → n ≡ t .n → Facts n → Loads n (t .n) (t .root) (listed-of t) s (Ok d) →
     Wrote n (d .root) (take (d .count) (s .records-after)) before after len × Opens-again n (d .root) (take (d .count) (s .records-after)) (take len after) → Made input s before after len
@@ -45,15 +45,15 @@ made input t s d n before after len o e f h w =
     let b : take (d .count) (s .records-after) ≡ k .records = ap (take (d .count)) (k .after) ∙ take-at (k .records) (drop (length (k .records)) (s .records)) (d .count) (sym (k .count)) in
     let m : n ≡ facts-of input = e ∙ o .facts in
     let v : Wrote (facts-of input) (d .root) (k .records) before after len × Opens-again (facts-of input) (d .root) (k .records) (take len after) =
-          subst (λ (q : ℕ). Wrote q (d .root) (k .records) before after len × Opens-again q (d .root) (k .records) (take len after)) m
-            (subst (λ (zs : List Record). Wrote n (d .root) zs before after len × Opens-again n (d .root) zs (take len after)) b w) in
+    subst (λ (q : ℕ). Wrote q (d .root) (k .records) before after len × Opens-again q (d .root) (k .records) (take len after)) m
+    (subst (λ (zs : List Record). Wrote n (d .root) zs before after len × Opens-again n (d .root) zs (take len after)) b w) in
     let short : length (k .records) ≤ length (records-of input) =
-          least (d .root) (k .records) (facts-of input) (root-of input) (records-of input) (k .fitting .normal .listing) (k .fitting .normal .normal) (k .fitting .listing) (k .fitting .normal .same) in
-    record
-      { root = d .root
-      ; records = k .records
-      ; fitting = k .fitting
-      ; loaded = (d, l)
-      ; wrote = v .0
-      ; tells = v .1 (omega (arith, f .1)) (omega (arith, short, l .0 .few)) (k .fitting .normal .listing)
-      }
+    least (d .root) (k .records) (facts-of input) (root-of input) (records-of input) (k .fitting .normal .listing) (k .fitting .normal .normal) (k .fitting .listing) (k .fitting .normal .same) in
+    record {
+      root = d .root;
+      records = k .records;
+      fitting = k .fitting;
+      loaded = (d, l);
+      wrote = v .0;
+      tells = v .1 (omega (arith, f .1)) (omega (arith, short, l .0 .few)) (k .fitting .normal .listing);
+    }

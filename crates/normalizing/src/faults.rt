@@ -3,13 +3,12 @@
 ghost use mathlib.Core.Path.{_≡_};
 ghost use Rattle.normalizing.specs.declared.faults.NormalFault.the-variants.{Text, Load, Write};
 ghost use Rattle.normalizing.specs.Faults.{told};
-
 use listing::reports::Report;
 use reduce::faults::LoadFault;
-use text::faults::TextFault;
-use text::faults::WriteFault;
 use reduce::faults::LoadFaultPartialEq;
+use text::faults::TextFault;
 use text::faults::TextFaultPartialEq;
+use text::faults::WriteFault;
 use text::faults::WriteFaultPartialEq;
 
 /// Why a text is not made normal.
@@ -57,9 +56,17 @@ impl NormalFault {
         ensures { λ r. ⌜ r ≡ told self ⌝ }
     {
         match self {
-            NormalFault::Input => Report { number: 19, place: 0, detail: 0 },
+            NormalFault::Input => Report {
+                number: 19,
+                place: 0,
+                detail: 0,
+            },
             NormalFault::Text(fault) => fault.report(),
-            NormalFault::Facts => Report { number: 1, place: 0, detail: 0 },
+            NormalFault::Facts => Report {
+                number: 1,
+                place: 0,
+                detail: 0,
+            },
             NormalFault::Load(fault) => fault.report(),
             NormalFault::Write(fault) => fault.report(),
         }

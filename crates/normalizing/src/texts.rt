@@ -7,19 +7,18 @@ ghost use Rattle.std.specs.Results.{Cases as ByOk};
 ghost use Rattle.std.specs.declared.result.Result.the-variants.{Err};
 ghost use Rattle.text.specs.Writing.{Wrote, Opens-again};
 ghost use Rattle.normalizing.specs.Texts.{Normalized, Printed, Answered};
-
 use crate::faults::NormalFault;
 use crate::faults::NormalFromLoad;
 use crate::faults::NormalFromText;
 use crate::faults::NormalFromWrite;
-use listing::settings::facts_allowed;
 use listing::Record;
-use reduce::loading::load;
+use listing::settings::facts_allowed;
 use reduce::loading::Loaded;
+use reduce::loading::load;
 use reduce::row::Row;
+use source::Source;
 use source::records::Records;
 use source::records::RecordsSource;
-use source::Source;
 use text::faults::WriteFault;
 use text::opening::Text;
 use text::opening::TextSource;
@@ -33,7 +32,12 @@ pub const MOST_BYTES: usize = 15_986;
 /// its length. Faults, in this order: an input over 15,986 bytes; opening's; n outside 1 to 512; loading's; an
 /// output too short. A fault leaves the output as it was. The rows and the records are work space, one of each for a
 /// record of the input.
-pub fn normal_text(input: &[u8], rows: &mut [Row], records: &mut [Record], output: &mut [u8]) -> Result<usize, NormalFault>
+pub fn normal_text(
+    input: &[u8],
+    rows: &mut [Row],
+    records: &mut [Record],
+    output: &mut [u8],
+) -> Result<usize, NormalFault>
     ensures { λ r. ⌜ Normalized (now (input .entry)) (record { rows = now (rows .entry); rows-after = now (rows .exit); records = now (records .entry); records-after = now (records .exit) }) (now (output .entry)) (now (output .exit)) r ⌝ }
 {
     if input.len() > MOST_BYTES {
@@ -51,7 +55,12 @@ pub fn normal_text(input: &[u8], rows: &mut [Row], records: &mut [Record], outpu
 
 /// The bytes that the program `normal` puts out for an input, and their number: the normal text, or the line of the
 /// fault, its number, place and detail in columns of 6. An output too short for that line is told and left alone.
-pub fn normal_bytes(input: &[u8], rows: &mut [Row], records: &mut [Record], output: &mut [u8]) -> Result<usize, WriteFault>
+pub fn normal_bytes(
+    input: &[u8],
+    rows: &mut [Row],
+    records: &mut [Record],
+    output: &mut [u8],
+) -> Result<usize, WriteFault>
     ensures { λ r. ⌜ Answered (now (input .entry)) (record { rows = now (rows .entry); rows-after = now (rows .exit); records = now (records .entry); records-after = now (records .exit) }) (now (output .entry)) (now (output .exit)) r ⌝ }
 {
     match normal_text(input, rows, records, output) {
@@ -68,10 +77,22 @@ fn print_fault(fault: NormalFault, output: &mut [u8]) -> Result<usize, WriteFaul
 }
 
 // Writes the text of the listing whose records stand in front.
-fn write_front(n: u16, loaded: Loaded, records: &[Record], output: &mut [u8]) -> Result<usize, WriteFault>
+fn write_front(
+    n: u16,
+    loaded: Loaded,
+    records: &[Record],
+    output: &mut [u8],
+) -> Result<usize, WriteFault>
     requires { ⌜ loaded .count ≤ length (now records) ⌝ }
     ensures { λ r. ⌜ ByOk r (λ len. Wrote n (loaded .root) (take (loaded .count) (now (records .entry))) (now (output .entry)) (now (output .exit)) len × Opens-again n (loaded .root) (take (loaded .count) (now (records .entry))) (take len (now (output .exit)))) (λ _. (length (now (output .entry)) < 21 + 31 * loaded .count) × (now (output .exit) ≡ now (output .entry))) ⌝ }
 {
     let count = loaded.count;
-    write(&Records { n, root: loaded.root, records: &records[0..count] }, output)
+    write(
+        &Records {
+            n,
+            root: loaded.root,
+            records: &records[0..count],
+        },
+        output,
+    )
 }

@@ -15,7 +15,6 @@ ghost use Rattle.std.specs.Vec.{refused};
 ghost use Rattle.queue.specs.Rank.{Lawful, unsigned-lawful};
 ghost use Rattle.queue.specs.Waiting.{element, Least, Put, Taken};
 ghost use Rattle.queue.specs.declared.Element.{Element};
-
 use std::cmp::Ordering;
 
 pub mod front;

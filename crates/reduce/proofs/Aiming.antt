@@ -103,8 +103,8 @@ module _ (rs : List Record) (o : Ordered rs) (ts : Targeted rs) where
   sooner : (j k : ℕ) (q r : Record) → nth rs j ≡ Some q → nth rs k ≡ Some r → q .level < r .level → j < k
   sooner j k q r f e up =
       ⊎-elim (λ d. absurd (omega (arith, ap (λ (x : Record). x .level) (nth-same rs k r q (sym e) (subst (λ i. nth rs i ≡ Some q) d f)))))
-        (λ c. ⊎-elim (λ l. l) (λ l. absurd (omega (arith, ahead-at rs o k j r q l e f))) c)
-        (cases-order j k)
+      (λ c. ⊎-elim (λ l. l) (λ l. absurd (omega (arith, ahead-at rs o k j r q l e f))) c)
+      (cases-order j k)
 
   -- an arc to place k is an arc of an earlier record to its node
   arc-aims : (k : ℕ) (r : Record) → nth rs k ≡ Some r → (j : ℕ) (q : Record) → nth rs j ≡ Some q → (b : Bool) → child b q ≡ node r → (x : Record) × In x (take k rs) × Aims x r
@@ -126,16 +126,21 @@ module _ (rs : List Record) (o : Ordered rs) (ts : Targeted rs) where
   aims-named : (k : ℕ) (r : Record) → nth rs k ≡ Some r → (q : Record) → In q (take k rs) → Aims q r → Named rows (length rows) k
   aims-named k r e q m a =
       let b = child-aims q r a in
-      let p = in-nth q rs (take-in rs k q m) in
-      (p .0, omega (arith, many, nth-bound rs (p .0) q (p .1)), b .0, r .level,
-       ap (arc (b .0)) (getD-placed rs rs (p .0) q (p .1)) ∙ arc-placed rs (b .0) q ∙ ap (placing rs) (b .1) ∙
-       ap (Node (r .level)) (place-is rs o (node r) k 0 (r, e, refl) ∙ omega arith))
+      let p = in-nth q rs (take-in rs k q m) in (
+        p .0,
+        omega (arith, many, nth-bound rs (p .0) q (p .1)),
+        b .0,
+        r .level,
+        ap (arc (b .0)) (getD-placed rs rs (p .0) q (p .1)) ∙ arc-placed rs (b .0) q ∙ ap (placing rs) (b .1) ∙
+            ap (Node (r .level)) (place-is rs o (node r) k 0 (r, e, refl) ∙ omega arith),
+      )
 
   reached-from : (before qs : List Record) → ((k : ℕ) (r : Record) → nth qs k ≡ Some r → (q : Record) × (In q before ⊎ In q (take k qs)) × Aims q r) → Reached before qs
   reached-from before [] f = tt
-  reached-from before (r ∷ qs) f =
-      ((let w = f 0 r refl in (w .0, ⊎-elim (λ m. m) (λ m. absurd m) (w .1), w .2)),
-       reached-from (r ∷ before) qs (λ k x e. let w = f (suc k) x e in (w .0, ⊎-elim (λ m. inl (inr m)) (λ m. ⊎-elim (λ d. inl (inl d)) (λ j. inr j) m) (w .1), w .2)))
+  reached-from before (r ∷ qs) f = (
+    (let w = f 0 r refl in (w .0, ⊎-elim (λ m. m) (λ m. absurd m) (w .1), w .2)),
+    reached-from (r ∷ before) qs (λ k x e. let w = f (suc k) x e in (w .0, ⊎-elim (λ m. inl (inr m)) (λ m. ⊎-elim (λ d. inl (inl d)) (λ j. inr j) m) (w .1), w .2)),
+  )
 
   aimed-from : (qs : List Record) → ((k : ℕ) (r : Record) → 0 < k → nth qs k ≡ Some r → (q : Record) × In q (take k qs) × Aims q r) → Aimed qs
   aimed-from [] f = tt
@@ -147,10 +152,11 @@ module _ (rs : List Record) (o : Ordered rs) (ts : Targeted rs) where
 
   pub unaimed-first : (p : ℕ) → First (Unnamed rows) p → First (Unaimed rs) p
   unaimed-first p w =
-      let n = nth-some rs p (omega (arith, w .0 .1, many)) in
-      ((n .0, n .1, w .0 .0, (λ q m a. w .0 .2 (aims-named p (n .0) (n .1) q m a))),
-       (λ k l u. w .1 k l
-          (u .2, omega (arith, many, nth-bound rs k (u .0) (u .1)), (λ v. let a = named-aims k (u .0) (u .1) v in u .3 (a .0) (a .1) (a .2)))))
+      let n = nth-some rs p (omega (arith, w .0 .1, many)) in (
+        (n .0, n .1, w .0 .0, (λ q m a. w .0 .2 (aims-named p (n .0) (n .1) q m a))),
+        (λ k l u. w .1 k l
+            (u .2, omega (arith, many, nth-bound rs k (u .0) (u .1)), (λ v. let a = named-aims k (u .0) (u .1) v in u .3 (a .0) (a .1) (a .2)))),
+      )
 
 -- what the rows answer, of the records
 pub aim-answer : (rs : List Record) → Ordered rs → Targeted rs → (rows : List Row) (o : Option ℕ) → rows ≡ map (placed-row rs) rs → Cases o (All-named rows) (First (Unnamed rows)) → Cases o (Aimed rs) (First (Unaimed rs))

@@ -56,7 +56,7 @@ rooted-some t [] r e = let z : _≡_ {A = ℕ} 0 1 = cc in absurd (omega arith)
 rooted-some t (q ∷ rs) r e =
     let d : r ≡ q = cc in
     subst⁻¹ (λ (x : Record). Decides (names t x) (t ≡ node q)) d
-      ((λ z. names-eq t q z), (λ h. subst⁻¹ (λ u. names u q ≡ true) h (names-node q)))
+    ((λ z. names-eq t q z), (λ h. subst⁻¹ (λ u. names u q ≡ true) h (names-node q)))
 
 -- R2
 pub levelled-from : (n : ℕ) (rs : List Record) (i : ℕ) → length rs ≤ i → ((k : ℕ) → k < i → Too-high n rs k → ⊥) → Levelled n rs
@@ -76,9 +76,10 @@ follows-from p (r ∷ rs) f =
 
 pub numbered-from : (rs : List Record) (i : ℕ) → length rs ≤ i → ((k : ℕ) → k < i → Misnumbered rs k → ⊥) → Numbered rs
 numbered-from [] i h f = tt
-numbered-from (r ∷ rs) i h f =
-    (stable (eqb (r .number) 0) (decides.equal-numbers (r .number) 0) (λ n. f 0 (omega arith) (r, refl, n)),
-     follows-from r rs (λ k w. f (suc k) (omega (arith, nth-bound (r ∷ rs) (suc k) (w .1) (w .3))) w))
+numbered-from (r ∷ rs) i h f = (
+  stable (eqb (r .number) 0) (decides.equal-numbers (r .number) 0) (λ n. f 0 (omega arith) (r, refl, n)),
+  follows-from r rs (λ k w. f (suc k) (omega (arith, nth-bound (r ∷ rs) (suc k) (w .1) (w .3))) w),
+)
 
 module _ (rs : List Record) where
   pub numbered-absent : (i : ℕ) → None ≡ nth rs i → Misnumbered rs i → ⊥
@@ -86,15 +87,17 @@ module _ (rs : List Record) where
   numbered-absent (suc i) e w = let a = w .3 in let z : _≡_ {A = ℕ} 0 1 = cc in omega arith
 
   pub misnumbered-first : (i : ℕ) (r : Record) (b : Bool) → i ≡ 0 → Some r ≡ nth rs i → Decides b (r .number ≡ 0 → ⊥) → Decides b (Misnumbered rs i)
-  misnumbered-first zero r b z e d =
-      ((λ t. (r, sym e, d .0 t)),
-       (λ w. d .1 (λ h. w .2 (ap (λ (x : Record). x .number) (sym (nth-same rs 0 r (w .0) e (w .1))) ∙ h))))
+  misnumbered-first zero r b z e d = (
+    (λ t. (r, sym e, d .0 t)),
+    (λ w. d .1 (λ h. w .2 (ap (λ (x : Record). x .number) (sym (nth-same rs 0 r (w .0) e (w .1))) ∙ h))),
+  )
   misnumbered-first (suc i) r b z e d = absurd (omega arith)
 
   pub misnumbered-next : (i j : ℕ) (p r : Record) (b : Bool) → i ≡ suc j → Some p ≡ nth rs j → Some r ≡ nth rs i → Decides b (Next p r → ⊥) → Decides b (Misnumbered rs i)
   misnumbered-next i j p r b z e f d =
-      subst⁻¹ (λ k. Decides b (Misnumbered rs k)) z
-        ((λ t. (p, r, sym e, sym (subst (λ k. Some r ≡ nth rs k) z f), d .0 t)),
-         (λ w. d .1 (λ h. w .4
+      subst⁻¹ (λ k. Decides b (Misnumbered rs k)) z (
+        (λ t. (p, r, sym e, sym (subst (λ k. Some r ≡ nth rs k) z f), d .0 t)),
+        (λ w. d .1 (λ h. w .4
             (subst (λ (x : Record). Next x (w .1)) (nth-same rs j p (w .0) e (w .2))
-              (subst (λ (x : Record). Next p x) (nth-same rs (suc j) r (w .1) (subst (λ k. Some r ≡ nth rs k) z f) (w .3)) h)))))
+            (subst (λ (x : Record). Next p x) (nth-same rs (suc j) r (w .1) (subst (λ k. Some r ≡ nth rs k) z f) (w .3)) h)))),
+      )

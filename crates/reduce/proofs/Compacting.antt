@@ -28,23 +28,23 @@ module _ (R xs : List Row) (k c : ℕ) (kx : k < length xs) (h : Compacting R k 
 
   pub compacting-first : getD xs k no-row .first ≡ true → Compacting R (k + 1) (c + 1) (set xs c (getD xs k no-row))
   compacting-first e =
-      record
-        { done =
+      record {
+        done =
             next ∙ ap (λ (v : List Record). map entry-of (take c xs) ++ v) (cond-true _ _ _ e) ∙
             sym (append-assoc (map entry-of (take c xs)) (entry-of (getD xs k no-row) ∷ []) (kept (drop (k + 1) R))) ∙
             ap (λ (v : List Record). v ++ kept (drop (k + 1) R))
-              (sym (map-append (take c xs) (getD xs k no-row ∷ [])) ∙ ap (map entry-of) (sym (take-more-set xs c (getD xs k no-row) (let z = h .small in omega arith))))
-        ; rest = drop-set-lt (k + 1) xs c (getD xs k no-row) (let z = h .small in omega arith) ∙ drop-next xs R k (h .rest)
-        ; small = let z = h .small in omega arith
-        }
+            (sym (map-append (take c xs) (getD xs k no-row ∷ [])) ∙ ap (map entry-of) (sym (take-more-set xs c (getD xs k no-row) (let z = h .small in omega arith))));
+        rest = drop-set-lt (k + 1) xs c (getD xs k no-row) (let z = h .small in omega arith) ∙ drop-next xs R k (h .rest);
+        small = let z = h .small in omega arith;
+      }
 
   pub compacting-other : getD xs k no-row .first ≡ false → Compacting R (k + 1) c xs
   compacting-other e =
-      record
-        { done = next ∙ ap (λ (v : List Record). map entry-of (take c xs) ++ v) (cond-false _ _ _ e)
-        ; rest = drop-next xs R k (h .rest)
-        ; small = let z = h .small in omega arith
-        }
+      record {
+        done = next ∙ ap (λ (v : List Record). map entry-of (take c xs) ++ v) (cond-false _ _ _ e);
+        rest = drop-next xs R k (h .rest);
+        small = let z = h .small in omega arith;
+      }
 
 pub compacting-all : (R xs : List Row) (k c : ℕ) → length R ≤ k → Compacting R k c xs → map entry-of (take c xs) ≡ kept R
 compacting-all R xs k c h inv = sym (inv .done ∙ ap (λ (v : List Row). map entry-of (take c xs) ++ kept v) (drop-all k R h) ∙ append-nil (map entry-of (take c xs)))

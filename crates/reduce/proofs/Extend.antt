@@ -92,12 +92,12 @@ module _ (xs ys : List Record) (cx : Chain xs) (im im′ : Target → Target) (s
       Reduces (bs ++ xs) (cs ++ ys) im′
   extend red l high f t bs cs b c old new =
       let up : (q : Record) → In q ys → l < q .level = λ q m. let w = red .all-replace q m in omega (arith, high (w .0) (w .1), w .3 .level) in
-      record
-        { at-false = f
-        ; at-true = t
-        ; numbered = numbered-block l cs ys b (red .numbered) up
-        ; sorted = sorted-block l 0 cs ys c (red .sorted) b up
-        ; all-replaced = λ r m. ⊎-elim (λ k. widen-replaced cs r (old r k)) (λ k. replaced-kept cs r k (red .all-replaced r k)) (in-split bs xs r m)
-        ; all-replace = λ q m.
-            ⊎-elim (λ k. let w = new q k in (w .0, in-left bs xs (w .0) (w .1), w .2, w .3, w .4)) (λ k. replaces-kept bs q (red .all-replace q k)) (in-split cs ys q m)
-        }
+      record {
+        at-false = f;
+        at-true = t;
+        numbered = numbered-block l cs ys b (red .numbered) up;
+        sorted = sorted-block l 0 cs ys c (red .sorted) b up;
+        all-replaced = λ r m. ⊎-elim (λ k. widen-replaced cs r (old r k)) (λ k. replaced-kept cs r k (red .all-replaced r k)) (in-split bs xs r m);
+        all-replace = λ q m.
+            ⊎-elim (λ k. let w = new q k in (w .0, in-left bs xs (w .0) (w .1), w .2, w .3, w .4)) (λ k. replaces-kept bs q (red .all-replace q k)) (in-split cs ys q m);
+      }

@@ -67,22 +67,24 @@ module _ (rs : List Record) (o : Numbered rs) (l k from to mid : ℕ) (r : Recor
   here P i x d f p = subst P (nth-same rs mid r x e (subst (λ j. nth rs j ≡ Some x) d f)) p
 
   pub halved-up : Sooner r l k → Halved rs l k (mid + 1) to
-  halved-up s =
-      (h .0,
-       (λ i x b f.
-          ⊎-elim (λ d. here (λ (q : Record). Sooner q l k) i x d f s)
-                 (λ d. sooner-ahead x r l k (ahead-at rs (ordered rs o) i mid x r (omega arith) f (sym e)) s)
-                 (cases-eq i mid)),
-       h .2)
+  halved-up s = (
+    h .0,
+    (λ i x b f.
+        ⊎-elim (λ d. here (λ (q : Record). Sooner q l k) i x d f s)
+        (λ d. sooner-ahead x r l k (ahead-at rs (ordered rs o) i mid x r (omega arith) f (sym e)) s)
+        (cases-eq i mid)),
+    h .2,
+  )
 
   pub halved-down : Later r l k → Halved rs l k from mid
-  halved-down s =
-      (omega (arith, nth-bound rs mid r (sym e)),
-       h .1,
-       (λ i x b f.
-          ⊎-elim (λ d. here (λ (q : Record). Later q l k) i x d f s)
-                 (λ d. later-ahead x r l k (ahead-at rs (ordered rs o) mid i r x (omega arith) (sym e) f) s)
-                 (cases-eq i mid)))
+  halved-down s = (
+    omega (arith, nth-bound rs mid r (sym e)),
+    h .1,
+    (λ i x b f.
+        ⊎-elim (λ d. here (λ (q : Record). Later q l k) i x d f s)
+        (λ d. later-ahead x r l k (ahead-at rs (ordered rs o) mid i r x (omega arith) (sym e) f) s)
+        (cases-eq i mid)),
+  )
 
   pub found : r .level ≡ l → r .number ≡ k → At-place rs (Node l k) mid
   found a b = (r, sym e, ap₂ Node a b)
@@ -93,8 +95,8 @@ not-found rs l k from to h b w =
     let e = ap lev (w .2) in
     let f = ap num (w .2) in
     ⊎-elim (λ c. ⊎-elim (λ s. omega (arith, e)) (λ s. omega (arith, e, f)) (h .1 (p .0) (w .0) c (p .1)))
-           (λ c. ⊎-elim (λ s. omega (arith, e)) (λ s. omega (arith, e, f)) (h .2 (p .0) (w .0) (omega arith) (p .1)))
-           (cases-lt (p .0) from)
+    (λ c. ⊎-elim (λ s. omega (arith, e)) (λ s. omega (arith, e, f)) (h .2 (p .0) (w .0) (omega arith) (p .1)))
+    (cases-lt (p .0) from)
 
 -- the place that is found is the one that is named
 pub place-is : (rs : List Record) → Ordered rs → (t : Target) (p q : ℕ) → At-place rs t p → place-of rs q t ≡ q + p
@@ -121,8 +123,8 @@ kept-each rs r h false = h .0
 mistargeted : (rs : List Record) (r : Record) → (Kept-targets rs r → ⊥) → (b : Bool) × (Within rs (child b r) × Above (r .level) (child b r) → ⊥)
 mistargeted rs r h =
     ⊎-elim (λ e. (true, λ k. h (decides.target rs (r .level) (r .low) .0 e, k)))
-           (λ e. (false, λ k. both-ways (test.target rs (r .level) (r .low)) e (decides.target rs (r .level) (r .low) .1 k)))
-           (cases-bool (test.target rs (r .level) (r .low)))
+    (λ e. (false, λ k. both-ways (test.target rs (r .level) (r .low)) e (decides.target rs (r .level) (r .low) .1 k)))
+    (cases-bool (test.target rs (r .level) (r .low)))
 
 module _ (rs : List Record) (i : ℕ) (r : Record) (e : Some r ≡ nth rs i) where
   pub targets-broken : (Kept-targets rs r → ⊥) → Mistargeted rs i
@@ -157,4 +159,4 @@ take-filled f (q ∷ xs) (p ∷ ys) (suc i) x y e h d t =
 pub placed-node : (rs : List Record) → Ordered rs → (l : ℕ) (t : Target) (own k p : ℕ) → t ≡ Node own k → l < own → At-place rs (Node own k) p → Kept-target rs l t × (Node own p ≡ placing rs t)
 placed-node rs o l t own k p e h w =
     subst⁻¹ (λ (u : Target). Kept-target rs l u × (Node own p ≡ placing rs u)) e
-      ((place-within rs (Node own k) p w, h), ap (Node own) (sym (place-is rs o (Node own k) p 0 w ∙ omega arith)))
+    ((place-within rs (Node own k) p w, h), ap (Node own) (sym (place-is rs o (Node own k) p 0 w ∙ omega arith)))

@@ -42,11 +42,11 @@ ahead-from p q a b = ⊎-elim (λ e. inr (e, b)) (λ h. ⊎-elim (λ k. inl k) (
 
 pub ordered-rows : (k : ℕ) (rs : List Record) → Placed k rs → Monotone rs → Ordered rs
 ordered-rows k [] h l = tt
-ordered-rows k (r ∷ rs) h l =
-    (λ q m. ahead-from r q (onward-all r rs l q m) (omega (arith, placed-le (k + 1) rs (h .1) q m)),
-     ordered-rows (k + 1) rs (h .1) (onward-tail r rs l))
+ordered-rows k (r ∷ rs) h l = (
+  λ q m. ahead-from r q (onward-all r rs l q m) (omega (arith, placed-le (k + 1) rs (h .1) q m)),
+  ordered-rows (k + 1) rs (h .1) (onward-tail r rs l),
+)
 
 module _ (n : ℕ) (root : Target) (xs : List Record) (h : Rowing n root xs) where
-
   pub inner-rows : Inner n root xs
   inner-rows = record { rooted = h .rooted; levels = h .levelled; chained = chain-from xs (ordered-rows 0 xs (h .placed) (h .monotone)) (h .targeted); aimed = h .aimed }

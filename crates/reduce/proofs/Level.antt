@@ -54,16 +54,20 @@ pub record Sent (im : Target → Target) (x : Record) (s : Row) : Type 0 where
 
 sent-back : (im : Target → Target) (k : ℕ) (rs : List Row) (s : Row) → On s (move-rows im k rs) → (x : Record) × In x (given k rs) × Sent im x s
 sent-back im k [] s m = absurd m
-sent-back im k (r ∷ rs) s (inl e) =
-    (record { level = r .level; number = k; low = r .low; high = r .high }, inl refl,
-     record { own = ap (λ (y : Row). y .own) e; low = ap (λ (y : Row). y .low) e; high = ap (λ (y : Row). y .high) e; level = ap (λ (y : Row). y .level) e })
+sent-back im k (r ∷ rs) s (inl e) = (
+  record { level = r .level; number = k; low = r .low; high = r .high },
+  inl refl,
+  record { own = ap (λ (y : Row). y .own) e; low = ap (λ (y : Row). y .low) e; high = ap (λ (y : Row). y .high) e; level = ap (λ (y : Row). y .level) e },
+)
 sent-back im k (r ∷ rs) s (inr m) = let w = sent-back im (k + 1) rs s m in (w .0, inr (w .1), w .2)
 
 sent-forth : (im : Target → Target) (k : ℕ) (rs : List Row) (x : Record) → In x (given k rs) → (s : Row) × On s (move-rows im k rs) × Sent im x s
 sent-forth im k [] x m = absurd m
-sent-forth im k (r ∷ rs) x (inl e) =
-    (move-row im k r, inl refl,
-     record { own = sym (ap (λ (y : Record). y .number) e); low = sym (ap (λ (y : Record). im (y .low)) e); high = sym (ap (λ (y : Record). im (y .high)) e); level = sym (ap (λ (y : Record). y .level) e) })
+sent-forth im k (r ∷ rs) x (inl e) = (
+  move-row im k r,
+  inl refl,
+  record { own = sym (ap (λ (y : Record). y .number) e); low = sym (ap (λ (y : Record). im (y .low)) e); high = sym (ap (λ (y : Record). im (y .high)) e); level = sym (ap (λ (y : Record). y .level) e) },
+)
 sent-forth im k (r ∷ rs) x (inr m) = let w = sent-forth im (k + 1) rs x m in (w .0, inr (w .1), w .2)
 
 pub given-placed : (k : ℕ) (rs : List Row) → Placed k (given k rs)
@@ -105,12 +109,12 @@ write-look rows [] p v h f (inl w) = absurd (w .1)
 write-look rows [] p v h f (inr e) = e
 write-look rows (t ∷ ts) p v h f w =
     write-look (put-image rows (t .own) (outcome t)) ts p v (omega (arith, length-set rows (t .own) (imaged (getD rows (t .own) no-row) (outcome t)))) (λ u m. f u (inr m))
-      (⊎-elim (λ e. inr (subst (λ q. look (put-image rows q (outcome t)) p ≡ v) (sym e) (put-same rows p (outcome t) h ∙ f t (inl refl) e))) other (same-or-not (t .own) p))
+    (⊎-elim (λ e. inr (subst (λ q. look (put-image rows q (outcome t)) p ≡ v) (sym e) (put-same rows p (outcome t) h ∙ f t (inl refl) e))) other (same-or-not (t .own) p))
   where
     other : t .own ≢ p → ((u : Row) × On u ts × (u .own ≡ p)) ⊎ (look (put-image rows (t .own) (outcome t)) p ≡ v)
     other n =
         ⊎-elim (λ (w : (u : Row) × On u (t ∷ ts) × (u .own ≡ p)). ⊎-elim (λ e. absurd (n (sym (ap (λ (y : Row). y .own) e) ∙ w .2))) (λ m. inl (w .0, m, w .2)) (w .1))
-          (λ e. inr (put-other rows (t .own) p (outcome t) (λ g. n (sym g)) ∙ e)) w
+        (λ e. inr (put-other rows (t .own) p (outcome t) (λ g. n (sym g)) ∙ e)) w
 
 write-apart : (rows ts : List Row) (p : ℕ) → ((t : Row) → On t ts → t .own ≢ p) → look (write-back rows ts) p ≡ look rows p
 write-apart rows [] p f = refl
@@ -181,16 +185,20 @@ module _ (l a : ℕ) (im im′ : Target → Target) (B S : List Row) (sh : Shuff
   pub numbered-back : (t : Row) → On t N → (x : Record) × In x (given a B) × Sent im x t
   numbered-back t m =
       let v = marked-back zero-row 0 0 S t m in
-      let w = sorted-back (v .0) (v .1) in
-      (w .0, w .1,
-       record { own = v .2 .own ∙ w .2 .own; low = v .2 .low ∙ w .2 .low; high = v .2 .high ∙ w .2 .high; level = v .2 .level ∙ w .2 .level })
+      let w = sorted-back (v .0) (v .1) in (
+        w .0,
+        w .1,
+        record { own = v .2 .own ∙ w .2 .own; low = v .2 .low ∙ w .2 .low; high = v .2 .high ∙ w .2 .high; level = v .2 .level ∙ w .2 .level },
+      )
 
   numbered-forth : (x : Record) → In x (given a B) → (t : Row) × On t N × Sent im x t
   numbered-forth x m =
       let u = sent-forth im a B x m in
-      let v = marked-forth zero-row 0 0 S (u .0) (shuffled-on (move-rows im a B) S (u .0) sh (u .1)) in
-      (v .0, v .1,
-       record { own = v .2 .own ∙ u .2 .own; low = v .2 .low ∙ u .2 .low; high = v .2 .high ∙ u .2 .high; level = v .2 .level ∙ u .2 .level })
+      let v = marked-forth zero-row 0 0 S (u .0) (shuffled-on (move-rows im a B) S (u .0) sh (u .1)) in (
+        v .0,
+        v .1,
+        record { own = v .2 .own ∙ u .2 .own; low = v .2 .low ∙ u .2 .low; high = v .2 .high ∙ u .2 .high; level = v .2 .level ∙ u .2 .level },
+      )
 
   level-of : (t : Row) → On t N → t .level ≡ l
   level-of t m = let w = numbered-back t m in w .2 .level ∙ lev (w .0) (w .1)
@@ -201,14 +209,19 @@ module _ (l a : ℕ) (im im′ : Target → Target) (B S : List Row) (sh : Shuff
     where
       v : (x : Record) × In x (given a B) × Sent im x t
       v = numbered-back t m
+
       w : (x : Record) × In x (given a B) × Sent im x u
       w = numbered-back u n
+
       x-same : v .0 ≡ w .0
       x-same = placed-one a (given a B) (given-placed a B) (v .0) (w .0) (v .1) (w .1) (sym (v .2 .own) ∙ e ∙ w .2 .own)
+
       alike : Alike t u
       alike = (v .2 .low ∙ ap (λ (x : Record). im (x .low)) x-same ∙ sym (w .2 .low), v .2 .high ∙ ap (λ (x : Record). im (x .high)) x-same ∙ sym (w .2 .high))
+
       also : same-target (t .low) (t .high) ≡ same-target (u .low) (u .high)
       also = ap₂ same-target (alike .0) (alike .1)
+
       by : (same-target (t .low) (t .high) ≡ true) ⊎ (same-target (t .low) (t .high) ≡ false) → outcome t ≡ outcome u
       by (inl f) = cond-true _ _ _ f ∙ alike .0 ∙ sym (cond-true _ _ _ (sym also ∙ f))
       by (inr f) =
@@ -222,11 +235,11 @@ module _ (l a : ℕ) (im im′ : Target → Target) (B S : List Row) (sh : Shuff
 
     copies : (x : Record) → In x (given a B) → (t : Row) → On t N → Sent im x t → (c : Record) → In c (kept N) → c .low ≡ t .low → c .high ≡ t .high → Copies im′ x c
     copies x m t n h c k e f =
-        record
-          { level = block-level l 0 (kept N) (kept-block l zero-row 0 0 S (λ s o. let w = sorted-back s o in w .2 .level ∙ lev (w .0) (w .1))) c k ∙ sym (lev x m)
-          ; low = e ∙ h .low ∙ sym (low x m)
-          ; high = f ∙ h .high ∙ sym (high x m)
-          }
+        record {
+          level = block-level l 0 (kept N) (kept-block l zero-row 0 0 S (λ s o. let w = sorted-back s o in w .2 .level ∙ lev (w .0) (w .1))) c k ∙ sym (lev x m);
+          low = e ∙ h .low ∙ sym (low x m);
+          high = f ∙ h .high ∙ sym (high x m);
+        }
 
     level-block : Block l 0 (kept N)
     level-block = kept-block l zero-row 0 0 S (λ s o. let w = sorted-back s o in w .2 .level ∙ lev (w .0) (w .1))
@@ -236,28 +249,37 @@ module _ (l a : ℕ) (im im′ : Target → Target) (B S : List Row) (sh : Shuff
       where
         w : (t : Row) × On t N × Sent im x t
         w = numbered-forth x m
+
         t : Row
         t = w .0
+
         by : (same-target (w .0 .low) (w .0 .high) ≡ true) ⊎ (same-target (w .0 .low) (w .0 .high) ≡ false) → Replaced im′ (kept N) x
         by (inl f) =
-            inl (low x m ∙ sym (w .2 .low) ∙ same-target-eq (w .0 .low) (w .0 .high) f ∙ w .2 .high ∙ sym (high x m),
-                 image-is x m (w .0) (w .1) (w .2) ∙ cond-true _ _ _ f ∙ w .2 .low ∙ sym (low x m))
+            inl (
+              low x m ∙ sym (w .2 .low) ∙ same-target-eq (w .0 .low) (w .0 .high) f ∙ w .2 .high ∙ sym (high x m),
+              image-is x m (w .0) (w .1) (w .2) ∙ cond-true _ _ _ f ∙ w .2 .low ∙ sym (low x m),
+            )
         by (inr f) =
             let k = kept-of S (w .0) (w .1) (same-target-ne (w .0 .low) (w .0 .high) f) in
-            inr (k .0, k .1,
-                 image-is x m (w .0) (w .1) (w .2) ∙ cond-false _ _ _ f ∙
-                   ap₂ Node (level-of (w .0) (w .1) ∙ sym (block-level l 0 (kept N) level-block (k .0) (k .1))) (sym (k .4)),
-                 copies x m (w .0) (w .1) (w .2) (k .0) (k .1) (k .2) (k .3))
+            inr (
+              k .0,
+              k .1,
+              image-is x m (w .0) (w .1) (w .2) ∙ cond-false _ _ _ f ∙
+                  ap₂ Node (level-of (w .0) (w .1) ∙ sym (block-level l 0 (kept N) level-block (k .0) (k .1))) (sym (k .4)),
+              copies x m (w .0) (w .1) (w .2) (k .0) (k .1) (k .2) (k .3),
+            )
 
     level-replaces : (c : Record) → In c (kept N) → Replaces im′ (given a B) c
     level-replaces c k =
         let w = kept-from zero-row 0 0 S c k in
         let v = numbered-back (w .0) (w .1) in
-        let ne : same-target (w .0 .low) (w .0 .high) ≡ false = ⊎-elim (λ f. absurd (w .3 (same-target-eq (w .0 .low) (w .0 .high) f))) (λ f. f) (cases-bool (same-target (w .0 .low) (w .0 .high))) in
-        (v .0, v .1,
-         image-is (v .0) (v .1) (w .0) (w .1) (v .2) ∙ cond-false _ _ _ ne ∙ ap node (sym (w .2)),
-         copies (v .0) (v .1) (w .0) (w .1) (v .2) c k (ap (λ (y : Record). y .low) (w .2)) (ap (λ (y : Record). y .high) (w .2)),
-         λ e. w .3 (sym (ap (λ (y : Record). y .low) (w .2)) ∙ e ∙ ap (λ (y : Record). y .high) (w .2)))
+        let ne : same-target (w .0 .low) (w .0 .high) ≡ false = ⊎-elim (λ f. absurd (w .3 (same-target-eq (w .0 .low) (w .0 .high) f))) (λ f. f) (cases-bool (same-target (w .0 .low) (w .0 .high))) in (
+          v .0,
+          v .1,
+          image-is (v .0) (v .1) (w .0) (w .1) (v .2) ∙ cond-false _ _ _ ne ∙ ap node (sym (w .2)),
+          copies (v .0) (v .1) (w .0) (w .1) (v .2) c k (ap (λ (y : Record). y .low) (w .2)) (ap (λ (y : Record). y .high) (w .2)),
+          λ e. w .3 (sym (ap (λ (y : Record). y .low) (w .2)) ∙ e ∙ ap (λ (y : Record). y .high) (w .2)),
+        )
 
 -- ---- the step: R is F ++ (B ++ D), and the rows at entry were F ++ (B ++ D0)
 
@@ -310,8 +332,8 @@ module _ (l a b : ℕ) (F B D D0 S : List Row) (la : length F ≡ a) (lb : a + l
   wrote : (t : Row) → On t M → image-of Q′ (Node l (t .own)) ≡ outcome t
   wrote t m =
       write-look Q M (t .own) (outcome t)
-        (omega (arith, own-from t m .1, length-append F (M ++ D), length-append M D, length-M))
-        (λ u n e. one-outcome l a im im B S sh up lev u t n m e) (inl (t, m, refl))
+      (omega (arith, own-from t m .1, length-append F (M ++ D), length-append M D, length-M))
+      (λ u n e. one-outcome l a im im B S sh up lev u t n m e) (inl (t, m, refl))
 
   kept-is : kept (drop a Q′) ≡ kept M ++ kept D
   kept-is = kept-write Q M a ∙ ap kept (drop-at F (M ++ D) a la) ∙ kept-append M D
@@ -322,9 +344,9 @@ module _ (l a b : ℕ) (F B D D0 S : List Row) (la : length F ≡ a) (lb : a + l
   pub settled : Reduces (given b D0) (kept D) im → Reduces (given a (B ++ D0)) (kept (drop a Q′)) (image-of Q′)
   settled red =
       subst⁻¹ (λ (v : List Record). Reduces v (kept (drop a Q′)) (image-of Q′)) (given-append a b B D0 lb)
-        (subst⁻¹ (λ (v : List Record). Reduces (given a B ++ given b D0) v (image-of Q′)) kept-is
-          (extend (given b D0) (kept D) cx im (image-of Q′) same red l high refl refl (given a B) (kept M)
-            (level-block l a im (image-of Q′) B S sh up lev wrote (λ x m. same (x .low) (lows x m)) (λ x m. same (x .high) (highs x m)))
-            (kept-climbs S up)
-            (level-replaced l a im (image-of Q′) B S sh up lev wrote (λ x m. same (x .low) (lows x m)) (λ x m. same (x .high) (highs x m)))
-            (level-replaces l a im (image-of Q′) B S sh up lev wrote (λ x m. same (x .low) (lows x m)) (λ x m. same (x .high) (highs x m)))))
+      (subst⁻¹ (λ (v : List Record). Reduces (given a B ++ given b D0) v (image-of Q′)) kept-is
+      (extend (given b D0) (kept D) cx im (image-of Q′) same red l high refl refl (given a B) (kept M)
+      (level-block l a im (image-of Q′) B S sh up lev wrote (λ x m. same (x .low) (lows x m)) (λ x m. same (x .high) (highs x m)))
+      (kept-climbs S up)
+      (level-replaced l a im (image-of Q′) B S sh up lev wrote (λ x m. same (x .low) (lows x m)) (λ x m. same (x .high) (highs x m)))
+      (level-replaces l a im (image-of Q′) B S sh up lev wrote (λ x m. same (x .low) (lows x m)) (λ x m. same (x .high) (highs x m)))))

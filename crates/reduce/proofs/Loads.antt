@@ -52,14 +52,17 @@ pub works-from : (n : ℕ) (root : Target) (rs space after : List Record) (d : R
     Cases r (λ l. (l .root ≡ d .root) × (l .count ≡ d .count) × (d .count ≤ length space) × (after ≡ map entry-of (take (d .count) rows) ++ drop (d .count) space)) (λ f. (f ≡ fault.Space) × (length space < d .count) × (after ≡ space)) →
     Works n root rs space after r
 works-from n root rs space after d rows (Ok l) ls nm b h =
-    let k : length (map entry-of (take (d .count) rows)) ≡ d .count = length-map (take (d .count) rows) entry-of ∙ length-take-le (d .count) rows b in
-    (map entry-of (take (d .count) rows),
-     record { listing = ls; normal = subst⁻¹ (λ (t : Target). Normalizes n root rs t (map entry-of (take (d .count) rows))) (h .0) nm },
-     h .1 ∙ sym k, omega (arith, h .2), h .3 ∙ ap (λ m. map entry-of (take (d .count) rows) ++ drop m space) (sym k))
+    let k : length (map entry-of (take (d .count) rows)) ≡ d .count = length-map (take (d .count) rows) entry-of ∙ length-take-le (d .count) rows b in (
+      map entry-of (take (d .count) rows),
+      record { listing = ls; normal = subst⁻¹ (λ (t : Target). Normalizes n root rs t (map entry-of (take (d .count) rows))) (h .0) nm },
+      h .1 ∙ sym k,
+      omega (arith, h .2),
+      h .3 ∙ ap (λ m. map entry-of (take (d .count) rows) ++ drop m space) (sym k),
+    )
 works-from n root rs space after d rows (Err f) ls nm b h =
     let k : length (map entry-of (take (d .count) rows)) ≡ d .count = length-map (take (d .count) rows) entry-of ∙ length-take-le (d .count) rows b in
     subst⁻¹ (λ (x : LoadFault). Works n root rs space after (Err x)) (h .0)
-      (d .root, map entry-of (take (d .count) rows), record { listing = ls; normal = nm }, omega (arith, h .1), h .2)
+    (d .root, map entry-of (take (d .count) rows), record { listing = ls; normal = nm }, omega (arith, h .1), h .2)
 
 -- what the work answers, with the rows zeroed afterwards
 pub loads-from : (n m : ℕ) (root : Target) (rs : List Record) (s : Spaces) (r : Result Loaded LoadFault) → Admitted n m rs s → s .rows-after ≡ zeroed (length rs) (s .rows) → Works n root rs (s .records) (s .records-after) r → Loads n m root rs s r

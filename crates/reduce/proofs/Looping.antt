@@ -88,18 +88,18 @@ module _ (R xs : List Row) (a b k : ℕ) (kb : k < b) (kx : k < length xs) (h : 
   mapping-again low high el eh v ev =
       let r : Row = getD xs k no-row in
       let e : move-row (image-of R) k (getD xs k no-row) ≡ v =
-            (λ i. record { low = sym (el ∙ same-images xs R (h .images) (getD xs k no-row .low)) i; high = sym (eh ∙ same-images xs R (h .images) (getD xs k no-row .high)) i; level = getD xs k no-row .level; number = getD xs k no-row .number; own = k; first = getD xs k no-row .first; image = getD xs k no-row .image }) ∙ sym ev in
-      record
-        { done =
+      (λ i. record { low = sym (el ∙ same-images xs R (h .images) (getD xs k no-row .low)) i; high = sym (eh ∙ same-images xs R (h .images) (getD xs k no-row .high)) i; level = getD xs k no-row .level; number = getD xs k no-row .number; own = k; first = getD xs k no-row .first; image = getD xs k no-row .image }) ∙ sym ev in
+      record {
+        done =
             h .done ∙
             ap (λ (w : List Row). take k xs ++ move-rows (image-of R) k w) here ∙
             ap (λ (w : Row). take k xs ++ (w ∷ move-rows (image-of R) (k + 1) (part (k + 1) b R))) e ∙
             sym (append-assoc (take k xs) (v ∷ []) (move-rows (image-of R) (k + 1) (part (k + 1) b R))) ∙
-            ap (λ (w : List Row). w ++ move-rows (image-of R) (k + 1) (part (k + 1) b R)) (sym (take-more-set xs k v kx))
-        ; rest = drop-again R xs k v (h .rest)
-        ; images = map-set-same img xs k v no-row (ap img ev) ∙ h .images
-        ; inside = subst (λ (w : List Row). AllInside (length R) w) here (h .inside) .1
-        }
+            ap (λ (w : List Row). w ++ move-rows (image-of R) (k + 1) (part (k + 1) b R)) (sym (take-more-set xs k v kx));
+        rest = drop-again R xs k v (h .rest);
+        images = map-set-same img xs k v no-row (ap img ev) ∙ h .images;
+        inside = subst (λ (w : List Row). AllInside (length R) w) here (h .inside) .1;
+      }
 
 pub mapping-none : (R : List Row) (a b : ℕ) → AllInside (length R) (part a b R) → Mapping R a b a R
 mapping-none R a b h = record { done = refl; rest = refl; images = refl; inside = h }
@@ -141,15 +141,15 @@ module _ (R xs : List Row) (a b k : ℕ) (kb : k < b) (kx : k < length R) (h : W
 
   pub writing-again : (v : Row) → v ≡ imaged (getD xs (getD xs k no-row .own) no-row) (outcome (getD xs k no-row)) → Writing R a b (k + 1) (set xs (getD xs k no-row .own) v)
   writing-again v ev =
-      record
-        { rest =
+      record {
+        rest =
             h .rest ∙
             ap (write-back xs) there ∙
             ap (λ (t : Row). write-back (put-image xs (t .own) (outcome t)) (part (k + 1) b R)) like-at ∙
-            ap (λ (w : Row). write-back (set xs (getD xs k no-row .own) w) (part (k + 1) b R)) (sym ev)
-        ; bares = map-set-same bare xs (getD xs k no-row .own) v no-row (ap bare ev) ∙ h .bares
-        ; inside = subst (λ (w : List Row). OwnInside (length R) w) there (h .inside) .1
-        }
+            ap (λ (w : Row). write-back (set xs (getD xs k no-row .own) w) (part (k + 1) b R)) (sym ev);
+        bares = map-set-same bare xs (getD xs k no-row .own) v no-row (ap bare ev) ∙ h .bares;
+        inside = subst (λ (w : List Row). OwnInside (length R) w) there (h .inside) .1;
+      }
 
 pub writing-none : (R : List Row) (a b : ℕ) → OwnInside (length R) (part a b R) → Writing R a b a R
 writing-none R a b h = record { rest = refl; bares = refl; inside = h }

@@ -64,15 +64,16 @@ Hits t k = (l : ℕ) × (t ≡ Node l k)
 pub marked-first : (t : Target) (rows : List Row) (k : ℕ) → k < length rows → Decides (getD (marked t rows) k no-row .first) ((getD rows k no-row .first ≡ true) ⊎ Hits t k)
 marked-first (Node l p) rows k h =
     ⊎-elim
-      (λ e.
-         let f : getD (set rows p (with-mark true (getD rows p no-row))) k no-row ≡ with-mark true (getD rows p no-row) =
-               ap (λ j. getD (set rows p (with-mark true (getD rows p no-row))) j no-row) e ∙ getD-set-same rows p (with-mark true (getD rows p no-row)) no-row (omega arith) in
-         ((λ t. inr (l, ap (Node l) (sym e))), (λ _. ap (λ (r : Row). r .first) f)))
-      (λ n.
-         let f : getD (set rows p (with-mark true (getD rows p no-row))) k no-row ≡ getD rows k no-row = getD-set-other rows p k (with-mark true (getD rows p no-row)) no-row n in
-         ((λ t. inl (sym (ap (λ (r : Row). r .first) f) ∙ t)),
-          (λ w. ap (λ (r : Row). r .first) f ∙ ⊎-elim (λ t. t) (λ q. absurd (n (sym (ap num (q .1))))) w)))
-      (cases-eq k p)
+    (λ e.
+    let f : getD (set rows p (with-mark true (getD rows p no-row))) k no-row ≡ with-mark true (getD rows p no-row) =
+    ap (λ j. getD (set rows p (with-mark true (getD rows p no-row))) j no-row) e ∙ getD-set-same rows p (with-mark true (getD rows p no-row)) no-row (omega arith) in
+    ((λ t. inr (l, ap (Node l) (sym e))), (λ _. ap (λ (r : Row). r .first) f)))
+    (λ n.
+    let f : getD (set rows p (with-mark true (getD rows p no-row))) k no-row ≡ getD rows k no-row = getD-set-other rows p k (with-mark true (getD rows p no-row)) no-row n in (
+      (λ t. inl (sym (ap (λ (r : Row). r .first) f) ∙ t)),
+      (λ w. ap (λ (r : Row). r .first) f ∙ ⊎-elim (λ t. t) (λ q. absurd (n (sym (ap num (q .1))))) w),
+    ))
+    (cases-eq k p)
 marked-first False rows k h = ((λ t. inl t), (λ w. ⊎-elim (λ t. t) (λ q. let z : _≡_ {A = ℕ} 0 1 = (let a = q .1 in cc) in absurd (omega arith)) w))
 marked-first True rows k h = ((λ t. inl t), (λ w. ⊎-elim (λ t. t) (λ q. let z : _≡_ {A = ℕ} 0 1 = (let a = q .1 in cc) in absurd (omega arith)) w))
 
@@ -100,26 +101,29 @@ module _ (all rows : List Row) (i : ℕ) (e : map bare rows ≡ all) (h : Marks 
   pub marks-more : Marks all (i + 1) (marked high (marked low rows))
   marks-more k l =
       let a = marked-first low rows k (omega (arith, long)) in
-      let b = marked-first high (marked low rows) k (omega (arith, long, length-marked low rows)) in
-      ((λ t. ⊎-elim
-               (λ s. ⊎-elim (λ u. let w = h k l .0 u in (w .0, omega (arith, w .1), w .2, w .3, w .4)) (λ q. (i, omega arith, false, q .0, sym lo ∙ q .1)) (a .0 s))
-               (λ q. (i, omega arith, true, q .0, sym hi ∙ q .1))
-               (b .0 t)),
-       (λ w. b .1 (⊎-elim (λ v. inl (a .1 (inl (h k l .1 v)))) (λ q. ⊎-elim (λ x. inl (a .1 (inr x))) (λ y. inr y) q) (sides k w))))
+      let b = marked-first high (marked low rows) k (omega (arith, long, length-marked low rows)) in (
+        (λ t. ⊎-elim
+            (λ s. ⊎-elim (λ u. let w = h k l .0 u in (w .0, omega (arith, w .1), w .2, w .3, w .4)) (λ q. (i, omega arith, false, q .0, sym lo ∙ q .1)) (a .0 s))
+            (λ q. (i, omega arith, true, q .0, sym hi ∙ q .1))
+            (b .0 t)),
+        (λ w. b .1 (⊎-elim (λ v. inl (a .1 (inl (h k l .1 v)))) (λ q. ⊎-elim (λ x. inl (a .1 (inr x))) (λ y. inr y) q) (sides k w))),
+      )
 
 pub marks-start : (rows : List Row) → map bare rows ≡ rows → Marks rows 0 rows
-marks-start rows e k l =
-    ((λ t. absurd (both-ways (getD rows k no-row .first) (ap (λ xs. getD xs k no-row .first) (sym e) ∙ ap (λ (r : Row). r .first) (getD-bare rows k)) t)),
-     (λ w. absurd (omega (arith, w .1))))
+marks-start rows e k l = (
+  (λ t. absurd (both-ways (getD rows k no-row .first) (ap (λ xs. getD xs k no-row .first) (sym e) ∙ ap (λ (r : Row). r .first) (getD-bare rows k)) t)),
+  (λ w. absurd (omega (arith, w .1))),
+)
 
 -- what the first unmarked place is
 pub unmarked-all : (all rows : List Row) → Marks all (length all) rows → length all ≡ length rows → ((k : ℕ) → 0 < k → k < length rows → getD rows k no-row .first ≡ true) → All-named all
 unmarked-all all rows m e f k z l = m k l .0 (f k z (omega arith))
 
 pub unmarked-first : (all rows : List Row) → Marks all (length all) rows → length all ≡ length rows → (p : ℕ) → (0 < p) × (p < length rows) × (getD rows p no-row .first ≡ false) × ((k : ℕ) → 0 < k → k < p → getD rows k no-row .first ≡ true) → First (Unnamed all) p
-unmarked-first all rows m e p w =
-    ((w .0, omega (arith, w .1), (λ n. both-ways (getD rows p no-row .first) (w .2) (m p (omega (arith, w .1)) .1 n))),
-     (λ k l u. u .2 (m k (u .1) .0 (w .3 k (u .0) l))))
+unmarked-first all rows m e p w = (
+  (w .0, omega (arith, w .1), (λ n. both-ways (getD rows p no-row .first) (w .2) (m p (omega (arith, w .1)) .1 n))),
+  (λ k l u. u .2 (m k (u .1) .0 (w .3 k (u .0) l))),
+)
 
 pub inside-kept : (n : ℕ) (all rows : List Row) → map bare rows ≡ all → AllInside (length all) all → n ≡ length all → (k : ℕ) → k < length all → (b : Bool) → Inside n (arc b (getD rows k no-row))
 inside-kept n all rows e h l k b s =
@@ -130,10 +134,11 @@ pub marks-next : (all rows mid after : List Row) (i : ℕ) → map bare rows ≡
     mid ≡ marked (arc false (getD rows i no-row)) rows → after ≡ marked (arc true (getD rows i no-row)) mid →
     (map bare after ≡ all) × Marks all (i + 1) after
 marks-next all rows mid after i e h f g =
-    let d : after ≡ marked (arc true (getD rows i no-row)) (marked (arc false (getD rows i no-row)) rows) = g ∙ ap (marked (arc true (getD rows i no-row))) f in
-    (ap (map bare) d ∙ marked-bare (arc true (getD rows i no-row)) (marked (arc false (getD rows i no-row)) rows) ∙ marked-bare (arc false (getD rows i no-row)) rows ∙ e,
-     subst⁻¹ (λ (xs : List Row). Marks all (i + 1) xs) d
-       (marks-more all rows i e h (arc false (getD rows i no-row)) (arc true (getD rows i no-row)) (arc-kept rows all e false i) (arc-kept rows all e true i)))
+    let d : after ≡ marked (arc true (getD rows i no-row)) (marked (arc false (getD rows i no-row)) rows) = g ∙ ap (marked (arc true (getD rows i no-row))) f in (
+      ap (map bare) d ∙ marked-bare (arc true (getD rows i no-row)) (marked (arc false (getD rows i no-row)) rows) ∙ marked-bare (arc false (getD rows i no-row)) rows ∙ e,
+      subst⁻¹ (λ (xs : List Row). Marks all (i + 1) xs) d
+          (marks-more all rows i e h (arc false (getD rows i no-row)) (arc true (getD rows i no-row)) (arc-kept rows all e false i) (arc-kept rows all e true i)),
+    )
 
 pub unmarked-answer : (all rows : List Row) (o : Option ℕ) → Marks all (length all) rows → length all ≡ length rows →
     Cases o ((k : ℕ) → 0 < k → k < length rows → getD rows k no-row .first ≡ true) (λ p. (0 < p) × (p < length rows) × (getD rows p no-row .first ≡ false) × ((k : ℕ) → 0 < k → k < p → getD rows k no-row .first ≡ true)) →

@@ -64,9 +64,10 @@ steps-from p r e = steps-by p r (rank-target (r .low) (p .low)) (rank-target (r 
 
 onwards-from : (p : Row) (rs : List Row) → Ascends (λ x y. isLt (rank-row x y)) (p ∷ rs) 0 (suc (length rs)) → Onwards p rs
 onwards-from p [] h = tt
-onwards-from p (r ∷ rs) h =
-    (steps-from p r (h 0 p (omega arith) (omega arith)),
-     onwards-from r rs (λ k d a b. subst (λ n. isLt (rank-row (getD (p ∷ r ∷ rs) n d) (getD (r ∷ rs) k d)) ≡ false) (let z : suc k + 1 ≡ suc (k + 1) = omega arith in z) (h (suc k) d (omega arith) (omega arith))))
+onwards-from p (r ∷ rs) h = (
+  steps-from p r (h 0 p (omega arith) (omega arith)),
+  onwards-from r rs (λ k d a b. subst (λ n. isLt (rank-row (getD (p ∷ r ∷ rs) n d) (getD (r ∷ rs) k d)) ≡ false) (let z : suc k + 1 ≡ suc (k + 1) = omega arith in z) (h (suc k) d (omega arith) (omega arith))),
+)
 
 pub ascending-from : (rs : List Row) → Ascends (λ x y. isLt (rank-row x y)) rs 0 (length rs) → Ascending rs
 ascending-from [] h = tt

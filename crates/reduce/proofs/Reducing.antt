@@ -161,10 +161,10 @@ module _ (R xs : List Row) (n : ℕ) (root : Target) (g : Rowing n root (given 0
   pub reducing-inside : AllInside (length xs) (part a b xs)
   reducing-inside =
       subst⁻¹ (λ k. AllInside k (part a b xs)) len
-        (subst⁻¹ (λ (v : List Row). AllInside (length R) v) part-same
-          (all-inside (length R) a (part a b R)
-            (λ x m.
-              (over-inside R (x .low) (g .targeted x (front-in x (block-in x m)) false .0), over-inside R (x .high) (g .targeted x (front-in x (block-in x m)) true .0)))))
+      (subst⁻¹ (λ (v : List Row). AllInside (length R) v) part-same
+      (all-inside (length R) a (part a b R)
+      (λ x m.
+      (over-inside R (x .low) (g .targeted x (front-in x (block-in x m)) false .0), over-inside R (x .high) (g .targeted x (front-in x (block-in x m)) true .0)))))
 
   -- the record before the level is on a lower one, and so is every record that is no later than it
   below-last : (x q : Record) → In x (given 0 (take a R)) → In q (given 0 (take b R)) → x .number ≤ q .number → q .level ≡ getD xs (a - 1) no-row .level → 0 < a → x .level < lv
@@ -191,29 +191,29 @@ module _ (R xs : List Row) (n : ℕ) (root : Target) (g : Rowing n root (given 0
       let la : length (take a R) ≡ a = let z = st .below in simp length-take (omega arith) in
       let lb : a + length (part a b R) ≡ b = let z = st .below in simp (length-take, length-drop) (omega arith) in
       let e : after ≡ write-back (take a R ++ (number-rows zero-row 0 0 (h .sorted) ++ drop b xs)) (number-rows zero-row 0 0 (h .sorted)) =
-            h .is ∙ ap (λ (v : List Row). write-back (v ++ (number-rows zero-row 0 0 (h .sorted) ++ drop b xs)) (number-rows zero-row 0 0 (h .sorted))) front-same in
-      record
-        { front = ap (take a) e ∙ front-is lv a b (take a R) (part a b R) (drop b xs) (drop b R) (h .sorted) la lb (image-of xs) (ap image-of xs-is) sh (h .ascends) lev cx high lows highs
-        ; reduced =
+      h .is ∙ ap (λ (v : List Row). write-back (v ++ (number-rows zero-row 0 0 (h .sorted) ++ drop b xs)) (number-rows zero-row 0 0 (h .sorted))) front-same in
+      record {
+        front = ap (take a) e ∙ front-is lv a b (take a R) (part a b R) (drop b xs) (drop b R) (h .sorted) la lb (image-of xs) (ap image-of xs-is) sh (h .ascends) lev cx high lows highs;
+        reduced =
             subst⁻¹ (λ (v : List Row). Reduces (given a v) (kept (drop a after)) (image-of after)) (drop-part R a b ab)
-              (subst⁻¹ (λ (v : List Row). Reduces (given a (part a b R ++ drop b R)) (kept (drop a v)) (image-of v)) e
-                (settled lv a b (take a R) (part a b R) (drop b xs) (drop b R) (h .sorted) la lb (image-of xs) (ap image-of xs-is) sh (h .ascends) lev cx high lows highs (inv .reduced)))
-        ; cut = λ x y m k.
+            (subst⁻¹ (λ (v : List Row). Reduces (given a (part a b R ++ drop b R)) (kept (drop a v)) (image-of v)) e
+            (settled lv a b (take a R) (part a b R) (drop b xs) (drop b R) (h .sorted) la lb (image-of xs) (ap image-of xs-is) sh (h .ascends) lev cx high lows highs (inv .reduced)));
+        cut = λ x y m k.
             ⊎-elim (λ j. let p = below-level x m in omega (arith, p, lev y j)) (λ j. inv .cut x y (early-in x m) j)
-              (in-split (given a (part a b R)) (given b (drop b R)) y
-                (subst (λ (v : List Record). In y v) (ap (given a) (drop-part R a b ab) ∙ given-append a b (part a b R) (drop b R) lb) k))
-        }
+            (in-split (given a (part a b R)) (given b (drop b R)) y
+            (subst (λ (v : List Record). In y v) (ap (given a) (drop-part R a b ab) ∙ given-append a b (part a b R) (drop b R) lb) k));
+      }
 
 none : (im : Target → Target) → im False ≡ False → im True ≡ True → Reduces [] [] im
 none im f t = record { at-false = f; at-true = t; numbered = tt; sorted = tt; all-replaced = λ r m. absurd m; all-replace = λ c m. absurd m }
 
 pub reducing-none : (R : List Row) (b : ℕ) → length R ≤ b → Reducing R b R
 reducing-none R b h =
-    record
-      { front = refl
-      ; reduced = subst⁻¹ (λ (v : List Row). Reduces (given b v) (kept v) (image-of R)) (drop-all b R h) (none (image-of R) refl refl)
-      ; cut = λ x y m k. absurd (subst (λ (v : List Row). In y (given b v)) (drop-all b R h) k)
-      }
+    record {
+      front = refl;
+      reduced = subst⁻¹ (λ (v : List Row). Reduces (given b v) (kept v) (image-of R)) (drop-all b R h) (none (image-of R) refl refl);
+      cut = λ x y m k. absurd (subst (λ (v : List Row). In y (given b v)) (drop-all b R h) k);
+    }
 
 root-image : (R xs : List Row) (root : Target) (n : ℕ) → 0 < length R → Rowing n root (given 0 R) → image-of xs root ≡ getD xs 0 no-row .image
 root-image [] xs root n h g = absurd (omega arith)
@@ -222,4 +222,4 @@ root-image (r ∷ R) xs root n h g = ap (image-of xs) (g .rooted)
 pub reducing-all : (R xs : List Row) → 0 < length R → Reducing R 0 xs → (n : ℕ) (root : Target) → Rowing n root (given 0 R) → Normalizes n root (given 0 R) (getD xs 0 no-row .image) (kept xs)
 reducing-all R xs h inv n root g =
     subst (λ t. Normalizes n root (given 0 R) t (kept xs)) (root-image R xs root n h g)
-      (normalizes n root (given 0 R) (inner-rows n root (given 0 R) g) (kept xs) (image-of xs) (inv .reduced))
+    (normalizes n root (given 0 R) (inner-rows n root (given 0 R) g) (kept xs) (image-of xs) (inv .reduced))

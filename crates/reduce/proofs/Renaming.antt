@@ -72,15 +72,16 @@ module _ (all : List Record) where
   place-reached us vs p (r ∷ rs) o t w h =
       let q = h .0 in
       let v = w (q .0) (q .1) in
-      let e = node-placed p r rs t in
-      ((place-record all (v .0) (q .0), v .1, ⊎-elim (λ f. inl (ap (placing all) f ∙ e)) (λ f. inr (ap (placing all) f ∙ e)) (q .2)),
-       place-reached (r ∷ us) (place-record all p r ∷ vs) (p + 1) rs (o .1) (tied-more p r rs (o .0) t) (twins-more us vs r p w) (h .1))
+      let e = node-placed p r rs t in (
+        (place-record all (v .0) (q .0), v .1, ⊎-elim (λ f. inl (ap (placing all) f ∙ e)) (λ f. inr (ap (placing all) f ∙ e)) (q .2)),
+        place-reached (r ∷ us) (place-record all p r ∷ vs) (p + 1) rs (o .1) (tied-more p r rs (o .0) t) (twins-more us vs r p w) (h .1),
+      )
 
 place-aimed : (xs : List Record) → Ordered xs → Aimed xs → Aimed (place-records xs 0 xs)
 place-aimed [] o h = tt
 place-aimed (r ∷ rs) o h =
     place-reached (r ∷ rs) (r ∷ []) (place-record (r ∷ rs) 0 r ∷ []) 1 rs (o .1) (λ q m. place-later r rs 0 (o .0) q m)
-      (λ u m. (0, ⊎-elim (λ e. inl (ap (place-record (r ∷ rs) 0) e)) (λ k. absurd k) m)) h
+    (λ u m. (0, ⊎-elim (λ e. inl (ap (place-record (r ∷ rs) 0) e)) (λ k. absurd k) m)) h
 
 place-rooted : (root : Target) (xs : List Record) → Rooted root xs → Rooted (placing xs root) (place-records xs 0 xs)
 place-rooted root [] (inl e) = inl (ap (placing []) e)
@@ -113,19 +114,19 @@ module _ (n : ℕ) (root : Target) (xs : List Record) (h : Listing n root xs) wh
       let w = place-back xs 0 xs x m in
       let t = h .targeted (w .0) (w .1) b in
       subst⁻¹ (λ (y : Record). Within ps (child b y) × Above (y .level) (child b y)) (w .2 .1)
-        (subst⁻¹ (λ u. Within ps u × Above (w .0 .level) u) (place-child xs (w .2 .0) b (w .0))
-          (place-over xs ord (child b (w .0)) (t .0), place-above xs (w .0 .level) (child b (w .0)) (t .1)))
+      (subst⁻¹ (λ u. Within ps u × Above (w .0 .level) u) (place-child xs (w .2 .0) b (w .0))
+      (place-over xs ord (child b (w .0)) (t .0), place-above xs (w .0 .level) (child b (w .0)) (t .1)))
 
   pub rowing : Rowing n (placing xs root) ps
   rowing =
-      record
-        { rooted = place-rooted root xs (h .rooted)
-        ; levelled = λ x m. let w = place-back xs 0 xs x m in subst⁻¹ (λ (y : Record). y .level < n) (w .2 .1) (h .levelled (w .0) (w .1))
-        ; placed = place-placed xs 0 xs
-        ; monotone = place-monotone xs 0 xs (h .numbered)
-        ; targeted = targets
-        ; aimed = place-aimed xs ord (h .aimed)
-        }
+      record {
+        rooted = place-rooted root xs (h .rooted);
+        levelled = λ x m. let w = place-back xs 0 xs x m in subst⁻¹ (λ (y : Record). y .level < n) (w .2 .1) (h .levelled (w .0) (w .1));
+        placed = place-placed xs 0 xs;
+        monotone = place-monotone xs 0 xs (h .numbered);
+        targeted = targets;
+        aimed = place-aimed xs ord (h .aimed);
+      }
 
   replaced : (r : Record) → In r xs → Replaced (placing xs) ps r
   replaced r m = inr (place-record xs (place-of xs 0 (node r)) r, place-in xs 0 xs ord r m, refl, record { level = refl; low = refl; high = refl })

@@ -57,16 +57,17 @@ like-parts p r e =
 
 pub fresh-parts : (p r : Row) → fresh p r ≡ true → (r .low ≡ r .high → ⊥) × (Alike p r → ⊥)
 fresh-parts p r e =
-    let w = and-parts (not (same-target (r .low) (r .high))) (not (like p r)) e in
-    (same-target-ne (r .low) (r .high) (not-true _ (w .0)),
-     λ a. true-not-false (sym (like-from p r a) ∙ not-true (like p r) (w .1)))
+    let w = and-parts (not (same-target (r .low) (r .high))) (not (like p r)) e in (
+      same-target-ne (r .low) (r .high) (not-true _ (w .0)),
+      λ a. true-not-false (sym (like-from p r a) ∙ not-true (like p r) (w .1)),
+    )
 
 -- a row whose targets differ, and that is not fresh, is like the one before it
 pub fresh-not : (p r : Row) → fresh p r ≡ false → (r .low ≡ r .high → ⊥) → Alike p r
 fresh-not p r e h =
     ⊎-elim (λ f. like-parts p r f)
-      (λ f. absurd (true-not-false (sym (and-from (not (same-target (r .low) (r .high))) (not (like p r)) (not-false _ (same-target-not (r .low) (r .high) h)) (not-false _ f)) ∙ e)))
-      (cases-bool (like p r))
+    (λ f. absurd (true-not-false (sym (and-from (not (same-target (r .low) (r .high))) (not (like p r)) (not-false _ (same-target-not (r .low) (r .high) h)) (not-false _ f)) ∙ e)))
+    (cases-bool (like p r))
 
 steps-rises : (p r : Row) (c : Record) → Steps p r → Rises (entry-of r) c → Rises (entry-of p) c
 steps-rises p r c (inl a) h = rises-move (entry-of r) c (entry-of p) c (sym (a .0)) (sym (a .1)) refl refl h
@@ -104,10 +105,11 @@ kept-rises p j k (r ∷ rs) o c m = by (kept-rises r k (k + 1) rs (o .1) c) (kep
   where
     up : fresh p r ≡ true → Rises (entry-of p) (entry-of r)
     up e = ⊎-elim (λ a. absurd (fresh-parts p r e .1 a)) (λ g. g) (o .0)
+
     by : (In c (kept (number-rows r k (k + 1) rs)) → Rises (entry-of r) c) → (In c (kept (number-rows r j k rs)) → Rises (entry-of r) c) → (fresh p r ≡ true) ⊎ (fresh p r ≡ false) → Rises (entry-of p) c
     by a b (inl e) =
         ⊎-elim (λ f. rises-move (entry-of p) (entry-of r) (entry-of p) c refl refl (sym (ap (λ (x : Record). x .low) f)) (sym (ap (λ (x : Record). x .high) f)) (up e))
-          (λ n. steps-rises p r c (o .0) (a n)) (subst (λ (v : List Record). In c v) (kept-new p r rs j k e) m)
+        (λ n. steps-rises p r c (o .0) (a n)) (subst (λ (v : List Record). In c v) (kept-new p r rs j k e) m)
     by a b (inr e) = steps-rises p r c (o .0) (b (subst (λ (v : List Record). In c v) (kept-old p r rs j k e) m))
 
 climbs-from : (p : Row) (j k : ℕ) (rs : List Row) → Ascending rs → Climbs (kept (number-rows p j k rs))
@@ -117,10 +119,11 @@ climbs-from p j k (r ∷ rs) o = by (climbs-from r k (k + 1) rs (tail rs o)) (cl
     tail : (rs : List Row) → Onwards r rs → Ascending rs
     tail [] o = tt
     tail (q ∷ qs) o = o .1
+
     by : Climbs (kept (number-rows r k (k + 1) rs)) → Climbs (kept (number-rows r j k rs)) → (fresh p r ≡ true) ⊎ (fresh p r ≡ false) → Climbs (kept (number-rows p j k (r ∷ rs)))
     by a b (inl e) =
         subst⁻¹ Climbs (kept-new p r rs j k e)
-          ((λ d m. rises-move (entry-of r) d (entry-of (mark r true k)) d refl refl refl refl (kept-rises r k (k + 1) rs o d m)), a)
+        ((λ d m. rises-move (entry-of r) d (entry-of (mark r true k)) d refl refl refl refl (kept-rises r k (k + 1) rs o d m)), a)
     by a b (inr e) = subst⁻¹ Climbs (kept-old p r rs j k e) b
 
 pub kept-climbs : (rs : List Row) → Ascending rs → Climbs (kept (number-rows zero-row 0 0 rs))
@@ -141,6 +144,7 @@ kept-for p j k (r ∷ rs) t m h = by (λ n. kept-for r k (k + 1) rs t n h) (λ n
     new e (inl f) = (entry-of (mark r true k), inl refl, sym (ap (λ (x : Row). x .low) f), sym (ap (λ (x : Row). x .high) f), sym (ap (λ (x : Row). x .number) f))
     new e (inr (inl w)) = (w .0, inr (w .1), w .2, w .3, w .4)
     new e (inr (inr w)) = (entry-of (mark r true k), inl refl, w .0 .0, w .0 .1, sym (w .1))
+
     old : fresh p r ≡ false → (t ≡ mark r false j) ⊎ (Kept (kept (number-rows r j k rs)) t ⊎ Kin r j t) → Kept (kept (number-rows r j k rs)) t ⊎ Kin p j t
     old e (inl f) =
         let a = fresh-not p r e (λ g. h (ap (λ (x : Row). x .low) f ∙ g ∙ sym (ap (λ (x : Row). x .high) f))) in
@@ -149,6 +153,7 @@ kept-for p j k (r ∷ rs) t m h = by (λ n. kept-for r k (k + 1) rs t n h) (λ n
     old e (inr (inr w)) =
         let a = fresh-not p r e (λ g. h (sym (w .0 .0) ∙ g ∙ w .0 .1)) in
         inr ((a .0 ∙ w .0 .0, a .1 ∙ w .0 .1), w .1)
+
     by : (On t (number-rows r k (k + 1) rs) → Kept (kept (number-rows r k (k + 1) rs)) t ⊎ Kin r k t) → (On t (number-rows r j k rs) → Kept (kept (number-rows r j k rs)) t ⊎ Kin r j t) →
         (fresh p r ≡ true) ⊎ (fresh p r ≡ false) → Kept (kept (number-rows p j k (r ∷ rs))) t ⊎ Kin p j t
     by a b (inl e) =
@@ -181,14 +186,15 @@ kept-from p j k (r ∷ rs) c m = by (kept-from r k (k + 1) rs c) (kept-from r j 
   where
     Out : List Row → Type 0
     Out v = (t : Row) × On t v × (c ≡ entry-of t) × (t .low ≡ t .high → ⊥)
+
     by : (In c (kept (number-rows r k (k + 1) rs)) → (t : Row) × On t (number-rows r k (k + 1) rs) × (c ≡ entry-of t) × (t .low ≡ t .high → ⊥)) → (In c (kept (number-rows r j k rs)) → (t : Row) × On t (number-rows r j k rs) × (c ≡ entry-of t) × (t .low ≡ t .high → ⊥)) →
         (fresh p r ≡ true) ⊎ (fresh p r ≡ false) → (t : Row) × On t (number-rows p j k (r ∷ rs)) × (c ≡ entry-of t) × (t .low ≡ t .high → ⊥)
     by a b (inl e) =
         subst⁻¹ (λ (v : List Row). (t : Row) × On t v × (c ≡ entry-of t) × (t .low ≡ t .high → ⊥)) (number-new p r rs j k e)
-          (⊎-elim (λ f. (mark r true k, inl refl, f, fresh-parts p r e .0)) (λ n. let w = a n in (w .0, inr (w .1), w .2, w .3)) (subst (λ (v : List Record). In c v) (kept-new p r rs j k e) m))
+        (⊎-elim (λ f. (mark r true k, inl refl, f, fresh-parts p r e .0)) (λ n. let w = a n in (w .0, inr (w .1), w .2, w .3)) (subst (λ (v : List Record). In c v) (kept-new p r rs j k e) m))
     by a b (inr e) =
         subst⁻¹ (λ (v : List Row). (t : Row) × On t v × (c ≡ entry-of t) × (t .low ≡ t .high → ⊥)) (number-old p r rs j k e)
-          (let w = b (subst (λ (v : List Record). In c v) (kept-old p r rs j k e) m) in (w .0, inr (w .1), w .2, w .3))
+        (let w = b (subst (λ (v : List Record). In c v) (kept-old p r rs j k e) m) in (w .0, inr (w .1), w .2, w .3))
 
 -- the numbered rows are the rows, but for the number and the flag
 pub record Marks (s t : Row) : Type 0 where
@@ -209,6 +215,7 @@ marked-back p j k (r ∷ rs) t m = by (marked-back r k (k + 1) rs t) (marked-bac
   where
     here : (f : Bool) (i : ℕ) → t ≡ mark r f i → (s : Row) × On s (r ∷ rs) × Marks s t
     here f i e = (r, inl refl, subst⁻¹ (λ (x : Row). Marks r x) e (marks-mark r f i))
+
     by : (On t (number-rows r k (k + 1) rs) → (s : Row) × On s rs × Marks s t) → (On t (number-rows r j k rs) → (s : Row) × On s rs × Marks s t) → (fresh p r ≡ true) ⊎ (fresh p r ≡ false) → (s : Row) × On s (r ∷ rs) × Marks s t
     by a b (inl e) = ⊎-elim (here true k) (λ n. let w = a n in (w .0, inr (w .1), w .2)) (subst (λ (v : List Row). On t v) (number-new p r rs j k e) m)
     by a b (inr e) = ⊎-elim (here false j) (λ n. let w = b n in (w .0, inr (w .1), w .2)) (subst (λ (v : List Row). On t v) (number-old p r rs j k e) m)
@@ -220,7 +227,7 @@ marked-forth p j k (r ∷ rs) s m = by (marked-forth r k (k + 1) rs s) (marked-f
     by : (On s rs → (t : Row) × On t (number-rows r k (k + 1) rs) × Marks s t) → (On s rs → (t : Row) × On t (number-rows r j k rs) × Marks s t) → (fresh p r ≡ true) ⊎ (fresh p r ≡ false) → (t : Row) × On t (number-rows p j k (r ∷ rs)) × Marks s t
     by a b (inl e) =
         subst⁻¹ (λ (v : List Row). (t : Row) × On t v × Marks s t) (number-new p r rs j k e)
-          (⊎-elim (λ f. (mark r true k, inl refl, marks-move r s (mark r true k) f (marks-mark r true k))) (λ n. let w = a n in (w .0, inr (w .1), w .2)) m)
+        (⊎-elim (λ f. (mark r true k, inl refl, marks-move r s (mark r true k) f (marks-mark r true k))) (λ n. let w = a n in (w .0, inr (w .1), w .2)) m)
     by a b (inr e) =
         subst⁻¹ (λ (v : List Row). (t : Row) × On t v × Marks s t) (number-old p r rs j k e)
-          (⊎-elim (λ f. (mark r false j, inl refl, marks-move r s (mark r false j) f (marks-mark r false j))) (λ n. let w = b n in (w .0, inr (w .1), w .2)) m)
+        (⊎-elim (λ f. (mark r false j, inl refl, marks-move r s (mark r false j) f (marks-mark r false j))) (λ n. let w = b n in (w .0, inr (w .1), w .2)) m)

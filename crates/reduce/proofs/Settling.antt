@@ -48,8 +48,8 @@ module _ (R X ys : List Row) (a b : ℕ) (ab : a ≤ b) (bn : b ≤ length R) (e
   mid-is : putMid a (b - a) X ys ≡ take a R ++ (ys ++ drop b R)
   mid-is =
       ap₂ (λ (u v : List Row). u ++ (ys ++ v))
-        (ap (take a) ex ∙ take-at (take a R) (M ++ drop b R) a front-length)
-        (ap (drop (b - a)) after-front ∙ drop-at M (drop b R) (b - a) M-length)
+      (ap (take a) ex ∙ take-at (take a R) (M ++ drop b R) a front-length)
+      (ap (drop (b - a)) after-front ∙ drop-at M (drop b R) (b - a) M-length)
 
   mid-part : part a b (putMid a (b - a) X ys) ≡ ys
   mid-part = ap (part a b) mid-is ∙ ap (take (b - a)) (drop-at (take a R) (ys ++ drop b R) a front-length) ∙ take-at ys (drop b R) (b - a) ys-length
@@ -60,16 +60,16 @@ module _ (R X ys : List Row) (a b : ℕ) (ab : a ≤ b) (bn : b ≤ length R) (e
   pub mid-inside : OwnInside (length (putMid a (b - a) X ys)) (part a b (putMid a (b - a) X ys))
   mid-inside =
       subst⁻¹ (λ (v : List Row). OwnInside (length (putMid a (b - a) X ys)) v) mid-part
-        (own-inside (length (putMid a (b - a) X ys)) ys
-          (λ t m.
-            let k = own-below a (image-of R) (part a b R) (shuffled-M .sorted) (shuffled-M .shuffled) t (subst (λ (v : List Row). On t v) (shuffled-M .is) m) in
-            omega (arith, k, part-length, mid-length)))
+      (own-inside (length (putMid a (b - a) X ys)) ys
+      (λ t m.
+      let k = own-below a (image-of R) (part a b R) (shuffled-M .sorted) (shuffled-M .shuffled) t (subst (λ (v : List Row). On t v) (shuffled-M .is) m) in
+      omega (arith, k, part-length, mid-length)))
 
   pub settles : (after : List Row) → after ≡ write-back (putMid a (b - a) X ys) (part a b (putMid a (b - a) X ys)) → Settled a b R after
   settles after e =
-      record
-        { sorted = shuffled-M .sorted
-        ; shuffled = shuffled-M .shuffled
-        ; ascends = shuffled-M .ascends
-        ; is = e ∙ ap₂ write-back mid-is mid-part ∙ ap (λ (v : List Row). write-back (take a R ++ (v ++ drop b R)) v) (shuffled-M .is)
-        }
+      record {
+        sorted = shuffled-M .sorted;
+        shuffled = shuffled-M .shuffled;
+        ascends = shuffled-M .ascends;
+        is = e ∙ ap₂ write-back mid-is mid-part ∙ ap (λ (v : List Row). write-back (take a R ++ (v ++ drop b R)) v) (shuffled-M .is);
+      }

@@ -11,7 +11,6 @@ ghost use Rattle.listing.specs.Listing.{Rooted, Levelled, Numbered, Targeted, A
 ghost use Rattle.reduce.specs.Rows.{given};
 ghost use Rattle.reduce.specs.Breaks.{First, Unaimed, Broken};
 ghost use Rattle.reduce.specs.Placing.{placed-row, place-records};
-
 use crate::faults::Break;
 use crate::faults::Rule;
 use crate::marks::aim_break;
@@ -28,13 +27,22 @@ fn order_break<S: Source>(source: &S) -> Option<Break>
     ensures { λ r. ⌜ BySome r (Rooted (top (now (source .entry))) (listed (now (source .entry))) × Levelled (facts (now (source .entry))) (listed (now (source .entry))) × Numbered (listed (now (source .entry)))) (λ b. Broken (facts (now (source .entry))) (top (now (source .entry))) (listed (now (source .entry))) (b .rule) (b .place)) ⌝ }
 {
     if !is_rooted(source) {
-        return Some(Break { rule: Rule::Root, place: 0 });
+        return Some(Break {
+            rule: Rule::Root,
+            place: 0,
+        });
     }
     if let Some(place) = level_break(source) {
-        return Some(Break { rule: Rule::Level, place: place as u32 });
+        return Some(Break {
+            rule: Rule::Level,
+            place: place as u32,
+        });
     }
     if let Some(place) = number_break(source) {
-        return Some(Break { rule: Rule::Number, place: place as u32 });
+        return Some(Break {
+            rule: Rule::Number,
+            place: place as u32,
+        });
     }
     None
 }
@@ -64,10 +72,16 @@ pub fn check_rules<S: Source>(source: &S, rows: &mut [Row]) -> Result<(), Break>
         return Err(broken);
     }
     if let Some(place) = target_break(source, rows) {
-        return Err(Break { rule: Rule::Target, place: place as u32 });
+        return Err(Break {
+            rule: Rule::Target,
+            place: place as u32,
+        });
     }
     if let Some(place) = unaimed_place(source, rows) {
-        return Err(Break { rule: Rule::Aim, place: place as u32 });
+        return Err(Break {
+            rule: Rule::Aim,
+            place: place as u32,
+        });
     }
     Ok(())
 }

@@ -3,7 +3,6 @@
 ghost use mathlib.Core.Path.{_≡_};
 ghost use Rattle.reduce.specs.declared.faults.LoadFault.the-variants.{Rule as OfRule};
 ghost use Rattle.reduce.specs.Faults.{rule-number, told};
-
 use listing::reports::Report;
 
 /// The rules of a listing, R1 to R5.
@@ -67,11 +66,31 @@ impl LoadFault {
         ensures { λ r. ⌜ r ≡ told self ⌝ }
     {
         match self {
-            LoadFault::Facts => Report { number: 10, place: 0, detail: 0 },
-            LoadFault::Records => Report { number: 11, place: 0, detail: 0 },
-            LoadFault::Row { number } => Report { number: 13, place: number, detail: 0 },
-            LoadFault::Rule(b) => Report { number: 12, place: b.place, detail: b.rule.number() },
-            LoadFault::Space => Report { number: 15, place: 0, detail: 0 },
+            LoadFault::Facts => Report {
+                number: 10,
+                place: 0,
+                detail: 0,
+            },
+            LoadFault::Records => Report {
+                number: 11,
+                place: 0,
+                detail: 0,
+            },
+            LoadFault::Row { number } => Report {
+                number: 13,
+                place: number,
+                detail: 0,
+            },
+            LoadFault::Rule(b) => Report {
+                number: 12,
+                place: b.place,
+                detail: b.rule.number(),
+            },
+            LoadFault::Space => Report {
+                number: 15,
+                place: 0,
+                detail: 0,
+            },
         }
     }
 }

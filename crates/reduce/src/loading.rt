@@ -13,13 +13,12 @@ ghost use Rattle.reduce.specs.Breaks.{Broken};
 ghost use Rattle.reduce.specs.Contract.{Normalizes};
 ghost use Rattle.reduce.specs.Placing.{place-records};
 ghost use Rattle.reduce.specs.Loading.{Works, Loads};
-
 use crate::checking::check_rules;
 use crate::faults::Break;
 use crate::faults::LoadFault;
 use crate::faults::LoadFromBreak;
-use crate::reduce_rows::normalize;
 use crate::reduce_rows::Reduced;
+use crate::reduce_rows::normalize;
 use crate::row::Row;
 use crate::row::ZERO;
 use listing::Record;
@@ -45,7 +44,10 @@ fn reduce_placed<S: Source>(source: &S, rows: &mut [Row]) -> Reduced
     ensures normal { λ d. ⌜ Normalizes (facts (now (source .entry))) (top (now (source .entry))) (listed (now (source .entry))) (d .root) (map entry-of (take (d .count) (now (rows .exit)))) ⌝ }
 {
     if rows.is_empty() {
-        return Reduced { root: source.root(), count: 0 };
+        return Reduced {
+            root: source.root(),
+            count: 0,
+        };
     }
     normalize(rows)
 }
@@ -62,11 +64,18 @@ fn copy_out(reduced: Reduced, rows: &[Row], records: &mut [Record]) -> Result<Lo
     for i in 0..count {
         records[i] = rows[i].record();
     }
-    Ok(Loaded { root: reduced.root, count })
+    Ok(Loaded {
+        root: reduced.root,
+        count,
+    })
 }
 
 // Checks the source's rules and makes its listing normal, in one row a record, and writes the normal records.
-fn load_rows<S: Source>(source: &S, rows: &mut [Row], records: &mut [Record]) -> Result<Loaded, LoadFault>
+fn load_rows<S: Source>(
+    source: &S,
+    rows: &mut [Row],
+    records: &mut [Record],
+) -> Result<Loaded, LoadFault>
     requires few { ⌜ length (listed (now source)) < 2 ^ 32 ⌝ }
     requires each { ⌜ length (now rows) ≡ length (listed (now source)) ⌝ }
     ensures { λ r. ⌜ Works (facts (now (source .entry))) (top (now (source .entry))) (listed (now (source .entry))) (now (records .entry)) (now (records .exit)) r ⌝ }
@@ -77,7 +86,11 @@ fn load_rows<S: Source>(source: &S, rows: &mut [Row], records: &mut [Record]) ->
 }
 
 // The same, with zeros in the rows afterwards.
-fn load_clearing<S: Source>(source: &S, rows: &mut [Row], records: &mut [Record]) -> Result<Loaded, LoadFault>
+fn load_clearing<S: Source>(
+    source: &S,
+    rows: &mut [Row],
+    records: &mut [Record],
+) -> Result<Loaded, LoadFault>
     requires few { ⌜ length (listed (now source)) < 2 ^ 32 ⌝ }
     requires each { ⌜ length (now rows) ≡ length (listed (now source)) ⌝ }
     ensures works { λ r. ⌜ Works (facts (now (source .entry))) (top (now (source .entry))) (listed (now (source .entry))) (now (records .entry)) (now (records .exit)) r ⌝ }
@@ -89,7 +102,12 @@ fn load_clearing<S: Source>(source: &S, rows: &mut [Row], records: &mut [Record]
 }
 
 // Loads an admitted source in the rows that it takes, one a record.
-fn load_admitted<S: Source>(n: u16, source: &S, rows: &mut [Row], records: &mut [Record]) -> Result<Loaded, LoadFault>
+fn load_admitted<S: Source>(
+    n: u16,
+    source: &S,
+    rows: &mut [Row],
+    records: &mut [Record],
+) -> Result<Loaded, LoadFault>
     requires facts { ⌜ facts (now source) ≡ n ⌝ }
     requires few { ⌜ length (listed (now source)) ≤ 65535 ⌝ }
     requires rows { ⌜ length (listed (now source)) ≤ length (now rows) ⌝ }
@@ -103,7 +121,12 @@ fn load_admitted<S: Source>(n: u16, source: &S, rows: &mut [Row], records: &mut 
 /// space, with the rows as work space. Faults, in this order: another n; over 65,535 records; no row for a record; a
 /// rule broken; no room for the normal records. The first three touch nothing. After every other outcome the rows
 /// taken, one a record, are zeros, and the other rows are as they were; a fault changes no record.
-pub fn load<S: Source>(n: u16, source: &S, rows: &mut [Row], records: &mut [Record]) -> Result<Loaded, LoadFault>
+pub fn load<S: Source>(
+    n: u16,
+    source: &S,
+    rows: &mut [Row],
+    records: &mut [Record],
+) -> Result<Loaded, LoadFault>
     ensures { λ r. ⌜ Loads n (facts (now (source .entry))) (top (now (source .entry))) (listed (now (source .entry))) (record { rows = now (rows .entry); rows-after = now (rows .exit); records = now (records .entry); records-after = now (records .exit) }) r ⌝ }
 {
     if source.n() != n {
@@ -114,7 +137,9 @@ pub fn load<S: Source>(n: u16, source: &S, rows: &mut [Row], records: &mut [Reco
         return Err(LoadFault::Records);
     }
     if count > rows.len() {
-        return Err(LoadFault::Row { number: rows.len() as u32 });
+        return Err(LoadFault::Row {
+            number: rows.len() as u32,
+        });
     }
     load_admitted(n, source, rows, records)
 }

@@ -10,7 +10,6 @@ ghost use Rattle.reduce.specs.Rows.{no-row};
 ghost use Rattle.reduce.specs.Settles.{Inside, AllInside};
 ghost use Rattle.reduce.specs.Marks.{bare, marked, Marks, Unnamed, All-named};
 ghost use Rattle.reduce.specs.Breaks.{First};
-
 use crate::row::Row;
 use listing::Target;
 

@@ -10,7 +10,6 @@ ghost use Rattle.listing.specs.declared.Target.the-variants.{Node};
 ghost use Rattle.listing.specs.Listing.{Within, Above, Numbered, Targeted};
 ghost use Rattle.reduce.specs.Breaks.{First, Mistargeted};
 ghost use Rattle.reduce.specs.Placing.{placing, placed-row, At-place, Kept-target, Kept-targets};
-
 use crate::row::Row;
 use crate::row::ZERO;
 use listing::Record;
@@ -55,7 +54,10 @@ fn placed<S: Source>(source: &S, level: u16, t: Target) -> Option<Target>
         return None;
     }
     match find(source, own, number) {
-        Some(place) => Some(Target::Node { level: own, number: place as u32 }),
+        Some(place) => Some(Target::Node {
+            level: own,
+            number: place as u32,
+        }),
         None => None,
     }
 }
@@ -72,7 +74,12 @@ fn row_of<S: Source>(source: &S, r: Record) -> Option<Row>
     let Some(high) = placed(source, r.level, r.high) else {
         return None;
     };
-    Some(Row { level: r.level, low, high, ..ZERO })
+    Some(Row {
+        level: r.level,
+        low,
+        high,
+        ..ZERO
+    })
 }
 
 // Fills the rows, one a record, with records whose arcs name places; the first place whose record breaks the

@@ -6,7 +6,6 @@ ghost use Rattle.listing.specs.declared.Target.{Target};
 ghost use Rattle.reduce.specs.Rows.{given, kept, entry-of};
 ghost use Rattle.reduce.specs.Reduction.{Rowing};
 ghost use Rattle.reduce.specs.Contract.{Normalizes};
-
 use crate::row::Row;
 use crate::settle::settle_level;
 use crate::starts::level_start;

@@ -4,14 +4,13 @@ ghost use Rattle.std.specs.Options.{SomeBy};
 ghost use Rattle.listing.specs.Tests.{same-target};
 ghost use Rattle.reduce.specs.Rows.{entry-of, like, fresh, outcome};
 ghost use Rattle.reduce.specs.Ranks.{rank-target, rank-row};
-
-use std::cmp::Ordering;
 use listing::Record;
 use listing::Target;
 use listing::TargetEq;
 use listing::TargetOrd;
 use listing::TargetPartialEq;
 use listing::TargetPartialOrd;
+use std::cmp::Ordering;
 
 // While a level is settled: all fields but `image` belong to the row that stands here after the sort;
 // `image` belongs to the row that stood here at entry.
@@ -26,14 +25,27 @@ pub struct Row {
     pub image: Target,
 }
 
-pub const ZERO: Row = Row { low: Target::False, high: Target::False, level: 0, number: 0, own: 0, first: false, image: Target::False };
+pub const ZERO: Row = Row {
+    low: Target::False,
+    high: Target::False,
+    level: 0,
+    number: 0,
+    own: 0,
+    first: false,
+    image: Target::False,
+};
 
 impl Row {
     // The record that this row describes.
     pub fn record(self) -> Record
         ensures { λ r. ⌜ r ≡ entry-of self ⌝ }
     {
-        Record { level: self.level, number: self.number, low: self.low, high: self.high }
+        Record {
+            level: self.level,
+            number: self.number,
+            low: self.low,
+            high: self.high,
+        }
     }
 }
 
@@ -63,7 +75,10 @@ pub(crate) fn outcome_of(t: Row) -> Target
     if same_target(t.low, t.high) {
         t.low
     } else {
-        Target::Node { level: t.level, number: t.number }
+        Target::Node {
+            level: t.level,
+            number: t.number,
+        }
     }
 }
 

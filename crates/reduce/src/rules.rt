@@ -7,7 +7,6 @@ ghost use Rattle.std.specs.Options.{Cases as BySome};
 ghost use Rattle.std.specs.Orderings.{Decides};
 ghost use Rattle.listing.specs.Listing.{Rooted, Levelled, Next, Numbered};
 ghost use Rattle.reduce.specs.Breaks.{terminal, First, Too-high, Misnumbered};
-
 use listing::Record;
 use listing::Target;
 use source::Source;

@@ -3,10 +3,9 @@ ghost use Prim.Native.Nat.{_^_, _≤_, _<_};
 ghost use lib.ListN.{length};
 ghost use Rattle.reduce.specs.Rows.{image-of, write-back};
 ghost use Rattle.reduce.specs.Settles.{Inside, AllInside, OwnInside, part, mapped-level, Settled};
-
 use crate::arrange::arrange_level;
-use crate::row::outcome_of;
 use crate::row::Row;
+use crate::row::outcome_of;
 use listing::Target;
 
 // The image of a target: that of the row at its place.
@@ -33,7 +32,12 @@ pub fn map_level(rows: &mut [Row], a: usize, b: usize)
         let r = rows[k];
         let low = image_at(rows, r.low);
         let high = image_at(rows, r.high);
-        rows[k] = Row { low, high, own: k as u32, ..r };
+        rows[k] = Row {
+            low,
+            high,
+            own: k as u32,
+            ..r
+        };
     }
 }
 

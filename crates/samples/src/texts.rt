@@ -1,11 +1,11 @@
 // Opening texts: what is refused, with its place, and what the rest tells.
 
-use listing::reports::Report;
-use listing::reports::ReportPartialEq;
 use listing::Record;
 use listing::RecordPartialEq;
 use listing::Target;
 use listing::TargetPartialEq;
+use listing::reports::Report;
+use listing::reports::ReportPartialEq;
 use source::Source;
 use std::test::*;
 use text::opening::Text;
@@ -14,13 +14,21 @@ use text::opening::TextSource;
 // The number, place and detail of a text's fault; all 0 where it opens.
 fn fault(bytes: &[u8]) -> Report {
     match Text::open(bytes) {
-        Ok(_) => Report { number: 0, place: 0, detail: 0 },
+        Ok(_) => Report {
+            number: 0,
+            place: 0,
+            detail: 0,
+        },
         Err(f) => f.report(),
     }
 }
 
 fn report(number: u32, place: u32, detail: u32) -> Report {
-    Report { number, place, detail }
+    Report {
+        number,
+        place,
+        detail,
+    }
 }
 
 #[test]
@@ -29,8 +37,22 @@ fn a_record_is_read() -> Result<(), Fail> {
         Ok(text) => {
             check(text.n() == 3)?;
             check(text.count() == 1)?;
-            check(text.root() == Target::Node { level: 2, number: 0 })?;
-            check(text.record(0) == Some(Record { level: 2, number: 0, low: Target::False, high: Target::True }))?;
+            check(
+                text.root()
+                    == Target::Node {
+                        level: 2,
+                        number: 0,
+                    },
+            )?;
+            check(
+                text.record(0)
+                    == Some(Record {
+                        level: 2,
+                        number: 0,
+                        low: Target::False,
+                        high: Target::True,
+                    }),
+            )?;
             check(text.record(1) == None)
         }
         Err(_) => check(false),
@@ -43,7 +65,9 @@ fn lengths_are_tested() -> Result<(), Fail> {
     check(fault(b"   3     0   3     0") == report(3, 0, 0)).note("20 bytes")?;
     check(fault(b"   3     0   3     0\n") == report(0, 0, 0)).note("21 bytes")?;
     check(fault(b"   3     1   2     0\n") == report(3, 0, 0)).note("a record is missing")?;
-    check(fault(b"   3     0   3     0\n   2     0   3     0   3     1\n") == report(3, 0, 0)).note("a record too many")
+    check(fault(b"   3     0   3     0\n   2     0   3     0   3     1\n") == report(3, 0, 0)).note(
+        "a record too many",
+    )
 }
 
 #[test]
@@ -53,8 +77,15 @@ fn columns_are_tested() -> Result<(), Fail> {
     check(fault(b"   3     0   2     0 ") == report(4, 0, 5)).note("no line feed")?;
     check(fault(b"   3         2     0\n") == report(4, 0, 2)).note("a blank column")?;
     check(fault(b"   3     1   2     0\n   2     0   3   0 0   3     1\n") == report(4, 1, 4))?;
-    check(fault(b"   3     1   2     0\n   2     0   3     0   3     1 ") == report(4, 1, 7)).note("no line feed")?;
-    check(fault(b"   3     2   2     0\n   2     0   3     0   3     1\n   2     1   3     0   3    -1\n") == report(4, 2, 6))
+    check(fault(b"   3     1   2     0\n   2     0   3     0   3     1 ") == report(4, 1, 7)).note(
+        "no line feed",
+    )?;
+    check(
+        fault(
+            b"   3     2   2     0\n   2     0   3     0   3     1\n   2     1   3     0   3    -1\n",
+        )
+            == report(4, 2, 6),
+    )
 }
 
 #[test]

@@ -1,12 +1,12 @@
 // Writing texts: the bytes of a listing, the room that it takes, and that it opens again.
 
-use listing::samples::exclusive_or;
 use listing::RecordPartialEq;
 use listing::Target;
 use listing::TargetPartialEq;
+use listing::samples::exclusive_or;
+use source::Source;
 use source::records::Records;
 use source::records::RecordsSource;
-use source::Source;
 use std::test::*;
 use text::opening::Text;
 use text::opening::TextSource;
@@ -23,16 +23,33 @@ fn outcome(source: &Records<'_>, buffer: &mut [u8], len: usize) -> u32 {
 #[test]
 fn a_listing_is_written() -> Result<(), Fail> {
     let records = exclusive_or();
-    let source = Records { n: 3, root: Target::Node { level: 0, number: 0 }, records: &records };
+    let source = Records {
+        n: 3,
+        root: Target::Node {
+            level: 0,
+            number: 0,
+        },
+        records: &records,
+    };
     let mut buffer = [b'x'; 116];
     check(outcome(&source, &mut buffer, 114) == 0)?;
-    check(buffer == *b"   3     3   0     0\n   0     0   1     0   1     1\n   1     0   3     0   3     1\n   1     1   3     1   3     0\nxx")
+    check(
+        buffer
+            == *b"   3     3   0     0\n   0     0   1     0   1     1\n   1     0   3     0   3     1\n   1     1   3     1   3     0\nxx",
+    )
 }
 
 #[test]
 fn a_short_buffer_is_left_alone() -> Result<(), Fail> {
     let records = exclusive_or();
-    let source = Records { n: 3, root: Target::Node { level: 0, number: 0 }, records: &records };
+    let source = Records {
+        n: 3,
+        root: Target::Node {
+            level: 0,
+            number: 0,
+        },
+        records: &records,
+    };
     let mut buffer = [b'x'; 113];
     check(outcome(&source, &mut buffer, 114) == 18)?;
     check(buffer == [b'x'; 113])
@@ -40,7 +57,11 @@ fn a_short_buffer_is_left_alone() -> Result<(), Fail> {
 
 #[test]
 fn columns_are_filled() -> Result<(), Fail> {
-    let source = Records { n: 9999, root: Target::True, records: &[] };
+    let source = Records {
+        n: 9999,
+        root: Target::True,
+        records: &[],
+    };
     let mut buffer = [b'x'; 21];
     check(outcome(&source, &mut buffer, 21) == 0)?;
     check(buffer == *b"9999     09999     1\n")
@@ -49,7 +70,14 @@ fn columns_are_filled() -> Result<(), Fail> {
 #[test]
 fn what_is_written_opens_again() -> Result<(), Fail> {
     let records = exclusive_or();
-    let source = Records { n: 3, root: Target::Node { level: 0, number: 0 }, records: &records };
+    let source = Records {
+        n: 3,
+        root: Target::Node {
+            level: 0,
+            number: 0,
+        },
+        records: &records,
+    };
     let mut buffer = [0; 114];
     check(outcome(&source, &mut buffer, 114) == 0)?;
     match Text::open(&buffer) {

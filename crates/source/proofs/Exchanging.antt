@@ -76,18 +76,18 @@ exchanged-aimed (r ∷ rs) h = exchanged-reached (r ∷ []) rs h
 
 pub exchanged-listing : (n : ℕ) (root : Target) (rs : List Record) → Listing n root rs → Listing n (exchanged root) (map exchanged-record rs)
 exchanged-listing n root rs h =
-    record
-      { rooted = exchanged-rooted root rs (h .rooted)
-      ; levelled = λ r m. let w = in-mapped exchanged-record r rs m in subst⁻¹ (λ (x : Record). x .level < n) (w .2) (h .levelled (w .0) (w .1))
-      ; numbered = exchanged-numbered rs (h .numbered)
-      ; targeted = λ r m b.
+    record {
+      rooted = exchanged-rooted root rs (h .rooted);
+      levelled = λ r m. let w = in-mapped exchanged-record r rs m in subst⁻¹ (λ (x : Record). x .level < n) (w .2) (h .levelled (w .0) (w .1));
+      numbered = exchanged-numbered rs (h .numbered);
+      targeted = λ r m b.
           let w = in-mapped exchanged-record r rs m in
           let t = h .targeted (w .0) (w .1) b in
           subst⁻¹ (λ (x : Record). Within (map exchanged-record rs) (child b x) × Above (x .level) (child b x)) (w .2)
-            (subst⁻¹ (λ u. Within (map exchanged-record rs) u × Above (w .0 .level) u) (exchanged-child b (w .0))
-              (exchanged-within rs (child b (w .0)) (t .0), exchanged-above (w .0 .level) (child b (w .0)) (t .1)))
-      ; aimed = exchanged-aimed rs (h .aimed)
-      }
+          (subst⁻¹ (λ u. Within (map exchanged-record rs) u × Above (w .0 .level) u) (exchanged-child b (w .0))
+          (exchanged-within rs (child b (w .0)) (t .0), exchanged-above (w .0 .level) (child b (w .0)) (t .1)));
+      aimed = exchanged-aimed rs (h .aimed);
+    }
 
 -- on the targets of a listing, the exchange's value is the other one
 pub walk-exchanged : (rs : List Record) → Chain rs → (s : Choice) (t : Target) → Within rs t → walk (map exchanged-record rs) s (exchanged t) ≡ not (walk rs s t)
@@ -99,7 +99,7 @@ walk-exchanged (r ∷ rs) ch s t o =
     by (walk-exchanged rs (ch .3) s) (strip r rs t o)
   where
     by : ((u : Target) → Within rs u → walk (map exchanged-record rs) s (exchanged u) ≡ not (walk rs s u)) → (t ≡ node r) ⊎ Within rs t →
-         cond (names t r) (walk (map exchanged-record rs) s (child (s (r .level)) (exchanged-record r))) (walk (map exchanged-record rs) s (exchanged t)) ≡ not (walk (r ∷ rs) s t)
+        cond (names t r) (walk (map exchanged-record rs) s (child (s (r .level)) (exchanged-record r))) (walk (map exchanged-record rs) s (exchanged t)) ≡ not (walk (r ∷ rs) s t)
     by ih (inl e) =
         cond-true _ _ _ (ap (λ u. names u r) e ∙ names-node r) ∙
         ap (walk (map exchanged-record rs) s) (exchanged-child (s (r .level)) r) ∙
@@ -110,7 +110,7 @@ walk-exchanged (r ∷ rs) ch s t o =
 
 pub negates : (n : ℕ) (root : Target) (rs : List Record) → Negates n root rs
 negates n root rs h =
-    record
-      { listing = exchanged-listing n root rs h
-      ; other = λ s len. walk-exchanged rs (chain n root rs h) (fact s) root (root-within root rs (h .rooted))
-      }
+    record {
+      listing = exchanged-listing n root rs h;
+      other = λ s len. walk-exchanged rs (chain n root rs h) (fact s) root (root-within root rs (h .rooted));
+    }

@@ -37,9 +37,11 @@ module _ (cs : List ℕ) (rs : List Record) (i : ℕ) (r : Record) (e : Some r �
     where
       b′ : k < length cs
       b′ = simp length-set at b
+
       same : k ≡ r .level → getD (set cs (r .level) (getD cs (r .level) 0 + 1)) k 0 ≡ on-level k (take (i + 1) rs)
       same d =
           rw d (rw getD-set-same (ap (λ c. c + 1) (h (r .level) w) ∙ sym (on-level-more (r .level) rs i r e ∙ ap (λ t. on-level (r .level) (take i rs) + t) (cond-true _ 1 0 (eq-eqb (r .level) (r .level) refl)))))
+
       other : (k ≡ r .level → ⊥) → getD (set cs (r .level) (getD cs (r .level) 0 + 1)) k 0 ≡ on-level k (take (i + 1) rs)
       other d =
           let ne : k ≢ r .level = d in

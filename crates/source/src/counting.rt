@@ -4,7 +4,6 @@ ghost use mathlib.Core.Path.{_≡_};
 ghost use Prim.Native.Nat.{ℕ, _<_};
 ghost use lib.ListN.{length, getD};
 ghost use Rattle.source.specs.Counting.{on-level};
-
 use crate::Source;
 
 /// Writes at each place of `counts` how many of the source's records have that place as their level; levels

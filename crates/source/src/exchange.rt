@@ -5,9 +5,8 @@ ghost use mathlib.Core.List.{map};
 ghost use lib.ListN.{length};
 ghost use Rattle.std.specs.shelf.Maps.{nth};
 ghost use Rattle.source.specs.Exchange.{exchanged, exchanged-record, Negates};
-
-use crate::references::RefSource;
 use crate::Source;
+use crate::references::RefSource;
 use listing::Record;
 use listing::Target;
 
@@ -32,7 +31,12 @@ pub fn swapped(t: Target) -> Target
 fn swapped_record(r: Record) -> Record
     ensures { λ q. ⌜ q ≡ exchanged-record r ⌝ }
 {
-    Record { level: r.level, number: r.number, low: swapped(r.low), high: swapped(r.high) }
+    Record {
+        level: r.level,
+        number: r.number,
+        low: swapped(r.low),
+        high: swapped(r.high),
+    }
 }
 
 // As many records as below.
@@ -94,8 +98,19 @@ pub fn exchanged_twice<S: Source>(source: &S, place: usize) -> Told
     ensures placed { λ r. ⌜ r .placed ≡ nth (listed (now (source .entry))) place ⌝ }
     ensures negates { λ _. ⌜ Negates (facts (now (source .entry))) (top (now (source .entry))) (listed (now (source .entry))) ⌝ }
 {
-    let twice = Exchanged { below: Exchanged { below: source } };
-    restored(source, place, Told { n: twice.n(), root: twice.root(), count: twice.count(), placed: twice.record(place) })
+    let twice = Exchanged {
+        below: Exchanged { below: source },
+    };
+    restored(
+        source,
+        place,
+        Told {
+            n: twice.n(),
+            root: twice.root(),
+            count: twice.count(),
+            placed: twice.record(place),
+        },
+    )
 }
 
 // Carries the theorems of the exchange: `told` is what the exchange of the exchange tells.

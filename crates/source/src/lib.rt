@@ -8,7 +8,6 @@ ghost use lib.ListN.{length};
 ghost use Rattle.std.specs.shelf.Maps.{nth};
 ghost use Rattle.listing.specs.declared.Target.{Target};
 ghost use Rattle.listing.specs.declared.Record.{Record};
-
 use listing::Record;
 use listing::Target;
 

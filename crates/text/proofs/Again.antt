@@ -47,10 +47,10 @@ first-read v ys h l =
 last-read : (w v : ℕ) (ys : List ℕ) → (0 < v / 10 → numeral (leading w (v / 10) ++ ((48 + v % 10) ∷ ys)) ≡ digits (v / 10) ((48 + v % 10) ∷ ys)) → 0 < v → numeral (leading w (v / 10) ++ ((48 + v % 10) ∷ ys)) ≡ digits v ys
 last-read w v ys before h =
     ⊎-elim
-      (λ k. before k ∙ digit-read v ys)
-      (λ k. let z : v / 10 ≡ 0 = omega arith in
-            ap (λ j. numeral (leading w j ++ ((48 + v % 10) ∷ ys))) z ∙ blanks-read w ((48 + v % 10) ∷ ys) ∙ first-read v ys h (omega arith))
-      (cases-lt 0 (v / 10))
+    (λ k. before k ∙ digit-read v ys)
+    (λ k. let z : v / 10 ≡ 0 = omega arith in
+    ap (λ j. numeral (leading w j ++ ((48 + v % 10) ∷ ys))) z ∙ blanks-read w ((48 + v % 10) ∷ ys) ∙ first-read v ys h (omega arith))
+    (cases-lt 0 (v / 10))
 
 leading-read : (w v : ℕ) (ys : List ℕ) → 0 < v → v < 10 ^ w → numeral (leading w v ++ ys) ≡ digits v ys
 unfolding leading
@@ -65,10 +65,10 @@ padded-read : (w v : ℕ) → v < 10 ^ suc w → numeral (padded (suc w) v) ≡ 
 unfolding padded
 padded-read w v l =
     ⊎-elim
-      (λ h. last-read w v [] (λ k. leading-read w (v / 10) ((48 + v % 10) ∷ []) k (omega (arith, pow-suc 10 w))) h)
-      (λ k. let z : v ≡ 0 = omega arith in
-            subst⁻¹ (λ j. numeral (leading w (j / 10) ++ ((48 + j % 10) ∷ [])) ≡ Some j) z (blanks-read w (48 ∷ [])))
-      (cases-lt 0 v)
+    (λ h. last-read w v [] (λ k. leading-read w (v / 10) ((48 + v % 10) ∷ []) k (omega (arith, pow-suc 10 w))) h)
+    (λ k. let z : v ≡ 0 = omega arith in
+    subst⁻¹ (λ j. numeral (leading w (j / 10) ++ ((48 + j % 10) ∷ [])) ≡ Some j) z (blanks-read w (48 ∷ [])))
+    (cases-lt 0 v)
 
 column-read : (w v : ℕ) (rest : List ℕ) → v < 10 ^ suc w → column-of (padded (suc w) v ++ rest) (suc w) ≡ Some v
 column-read w v rest l = ap numeral (take-at (padded (suc w) v) rest (suc w) (length-padded (suc w) v)) ∙ padded-read w v l
@@ -160,14 +160,14 @@ module _ (n : ℕ) (r : Record) (rest : List ℕ) (fit : Fits-line n r) where
   low-read : target-of n (value-at (line n r ++ rest) 10 4) (value-at (line n r ++ rest) 14 6) ≡ r .low
   low-read =
       target-read n (r .low) (fit .low) n _ _ refl
-        (at-low n r rest 0 4 ∙ first-value (level-of n (r .low)) (number-of (r .low)) (from-high n r rest) (fit .low .level))
-        (at-low n r rest 4 6 ∙ second-value (level-of n (r .low)) (number-of (r .low)) (from-high n r rest) (fit .low .number))
+      (at-low n r rest 0 4 ∙ first-value (level-of n (r .low)) (number-of (r .low)) (from-high n r rest) (fit .low .level))
+      (at-low n r rest 4 6 ∙ second-value (level-of n (r .low)) (number-of (r .low)) (from-high n r rest) (fit .low .number))
 
   high-read : target-of n (value-at (line n r ++ rest) 20 4) (value-at (line n r ++ rest) 24 6) ≡ r .high
   high-read =
       target-read n (r .high) (fit .high) n _ _ refl
-        (at-high n r rest 0 4 ∙ first-value (level-of n (r .high)) (number-of (r .high)) (10 ∷ rest) (fit .high .level))
-        (at-high n r rest 4 6 ∙ second-value (level-of n (r .high)) (number-of (r .high)) (10 ∷ rest) (fit .high .number))
+      (at-high n r rest 0 4 ∙ first-value (level-of n (r .high)) (number-of (r .high)) (10 ∷ rest) (fit .high .level))
+      (at-high n r rest 4 6 ∙ second-value (level-of n (r .high)) (number-of (r .high)) (10 ∷ rest) (fit .high .number))
 
   line-read : record-of n (line n r ++ rest) ≡ r
   line-read = λ i. record { level = level-read i; number = number-read i; low = low-read i; high = high-read i }
@@ -216,8 +216,8 @@ module _ (n : ℕ) (root : Target) (rs : List Record) (few : n < 10000) (short :
   root-read : root-of (written n root rs) ≡ root
   root-read =
       target-read n root top (facts-of (written n root rs)) _ _ facts-read
-        (root-value 0 4 ∙ first-value (level-of n root) (number-of root) (10 ∷ joined (line n) rs) (top .level))
-        (root-value 4 6 ∙ second-value (level-of n root) (number-of root) (10 ∷ joined (line n) rs) (top .number))
+      (root-value 0 4 ∙ first-value (level-of n root) (number-of root) (10 ∷ joined (line n) rs) (top .level))
+      (root-value 4 6 ∙ second-value (level-of n root) (number-of root) (10 ∷ joined (line n) rs) (top .number))
 
   records-read : records-of (written n root rs) ≡ rs
   records-read =
@@ -227,7 +227,7 @@ module _ (n : ℕ) (root : Target) (rs : List Record) (few : n < 10000) (short :
   text-sound =
       text-long (written n root rs) (omega (arith, length-written n root rs)) ∙
       ap₂ (λ o b. at-line o 0 b) head-sound
-        (body-lines (written n root rs) (length rs) (sym count-read) (length-written n root rs) ∙ ap (lines-fault (length rs) 1) text-lines ∙ lines-sound n 1 rs fit)
+      (body-lines (written n root rs) (length rs) (sym count-read) (length-written n root rs) ∙ ap (lines-fault (length rs) 1) text-lines ∙ lines-sound n 1 rs fit)
 
   text-tells : Tells n root rs (written n root rs)
   text-tells = record { faultless = text-sound; facts = facts-read; root = root-read; records = records-read }
@@ -257,18 +257,20 @@ target-fits n rs hn hN lv nm (Node l k) (r, m, e) =
     subst (λ t. Fits n t) e (record {
       level = omega (arith, lv r m);
       number = omega (arith, number-below rs nm r m);
-      same = node-same n (r .level) (r .number) (lv r m) })
+      same = node-same n (r .level) (r .number) (lv r m);
+    })
 target-fits n rs hn hN lv nm False w = record { level = omega arith; number = omega arith; same = cond-true _ _ _ (eq-eqb n n refl) }
 target-fits n rs hn hN lv nm True w = record { level = omega arith; number = omega arith; same = cond-true _ _ _ (eq-eqb n n refl) }
 
 opens-again : (n : ℕ) (root : Target) (rs : List Record) → Opens-again n root rs (written n root rs)
 opens-again n root rs hn hN ls =
     text-tells n root rs (omega arith) (omega arith) (fits root (root-within root rs (ls .rooted)))
-      (λ r m. record {
-        level = omega (arith, ls .levelled r m);
-        number = omega (arith, number-below rs (ls .numbered) r m);
-        low = fits (r .low) (ls .targeted r m false .0);
-        high = fits (r .high) (ls .targeted r m true .0) })
+    (λ r m. record {
+      level = omega (arith, ls .levelled r m);
+      number = omega (arith, number-below rs (ls .numbered) r m);
+      low = fits (r .low) (ls .targeted r m false .0);
+      high = fits (r .high) (ls .targeted r m true .0);
+    })
   where
     fits : (t : Target) → Within rs t → Fits n t
     fits = target-fits n rs hn hN (ls .levelled) (ls .numbered)

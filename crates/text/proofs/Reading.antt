@@ -62,13 +62,13 @@ header-reads bs e0 =
     let e2 = column-rests bs 2 1 4 e1 in
     let e3 = column-rests bs 1 2 10 e2 in
     let e4 = column-rests bs 0 3 14 e3 in
-    record
-      { facts = column-reads bs 3 0 0 e0
-      ; count = column-reads bs 2 1 4 e1
-      ; root-level = column-reads bs 1 2 10 e2
-      ; root-number = column-reads bs 0 3 14 e3
-      ; feed = feed-at bs 4 20 e4
-      }
+    record {
+      facts = column-reads bs 3 0 0 e0;
+      count = column-reads bs 2 1 4 e1;
+      root-level = column-reads bs 1 2 10 e2;
+      root-number = column-reads bs 0 3 14 e3;
+      feed = feed-at bs 4 20 e4;
+    }
 
 line-reads : (bs : List ℕ) → line-fault 6 0 bs ≡ None → Line bs
 line-reads bs e0 =
@@ -78,15 +78,15 @@ line-reads bs e0 =
     let e4 = column-rests bs 2 3 14 e3 in
     let e5 = column-rests bs 1 4 20 e4 in
     let e6 = column-rests bs 0 5 24 e5 in
-    record
-      { own-level = column-reads bs 5 0 0 e0
-      ; own-number = column-reads bs 4 1 4 e1
-      ; low-level = column-reads bs 3 2 10 e2
-      ; low-number = column-reads bs 2 3 14 e3
-      ; high-level = column-reads bs 1 4 20 e4
-      ; high-number = column-reads bs 0 5 24 e5
-      ; feed = feed-at bs 6 30 e6
-      }
+    record {
+      own-level = column-reads bs 5 0 0 e0;
+      own-number = column-reads bs 4 1 4 e1;
+      low-level = column-reads bs 3 2 10 e2;
+      low-number = column-reads bs 2 3 14 e3;
+      high-level = column-reads bs 1 4 20 e4;
+      high-number = column-reads bs 0 5 24 e5;
+      feed = feed-at bs 6 30 e6;
+    }
 
 lines-read : (m k : ℕ) (bs : List ℕ) → lines-fault m k bs ≡ None → (i : ℕ) → i < m → Line (drop (31 * i) bs)
 lines-read zero k bs e i h = absurd (omega arith)
@@ -99,11 +99,11 @@ pub well-formed : (bs : List ℕ) → text-fault bs ≡ None → Well-formed bs
 well-formed bs e =
     let whole = at-both (line-fault 4 0 bs) 0 (body-fault bs) (else-none (ltb (length bs) 21) (at-line (line-fault 4 0 bs) 0 (body-fault bs)) Length e) in
     let body = then-none (eqb (length bs) (21 + 31 * count-of bs)) (lines-fault (count-of bs) 1 (drop 21 bs)) Length (whole .1) in
-    record
-      { size = eqb-true (length bs) (21 + 31 * count-of bs) (body .0)
-      ; header = header-reads bs (whole .0)
-      ; lines = λ i h. rw (← drop-drop (31 * i) 21 bs) (lines-read (count-of bs) 1 (drop 21 bs) (body .1) i h)
-      }
+    record {
+      size = eqb-true (length bs) (21 + 31 * count-of bs) (body .0);
+      header = header-reads bs (whole .0);
+      lines = λ i h. rw (← drop-drop (31 * i) 21 bs) (lines-read (count-of bs) 1 (drop 21 bs) (body .1) i h);
+    }
 
 -- where the length fits, the whole lines behind the header are N
 pub whole-lines : (bs : List ℕ) (n : ℕ) → length bs ≡ 21 + 31 * count-of bs → n ≡ facts-of bs → lines-of ((length bs - 21) / 31) n (drop 21 bs) ≡ records-of bs

@@ -84,8 +84,8 @@ puts-both at at′ p q a b c h e f g =
     let front : take at′ b ≡ take at a ++ p = ap (take at′) whole ∙ take-at (take at a ++ p) (drop (at + length p) a) at′ l in
     let more : at + length p + length q ≡ at + length (p ++ q) = omega (arith, length-append p q) in
     let rest : drop (at′ + length q) b ≡ drop (at + length (p ++ q)) a =
-          sym (drop-drop (length q) at′ b) ∙ ap (drop (length q)) (ap (drop at′) whole ∙ drop-at (take at a ++ p) (drop (at + length p) a) at′ l) ∙
-          drop-drop (length q) (at + length p) a ∙ ap (λ j. drop j a) more in
+    sym (drop-drop (length q) at′ b) ∙ ap (drop (length q)) (ap (drop at′) whole ∙ drop-at (take at a ++ p) (drop (at + length p) a) at′ l) ∙
+    drop-drop (length q) (at + length p) a ∙ ap (λ j. drop j a) more in
     g ∙ ap₂ (λ x y. x ++ (q ++ y)) front rest ∙ append-assoc (take at a) p (q ++ drop (at + length (p ++ q)) a) ∙
     ap (λ z. take at a ++ z) (sym (append-assoc p q (drop (at + length (p ++ q)) a)))
 
@@ -106,8 +106,8 @@ pub puts-columns : (at n level number : ℕ) (low high : Target) (a b c d e : Li
 unfolding columns
 puts-columns at n level number low high a b c d e ha hb hc f g k l =
     puts-both at (at + 10) (pair level number) (aim n low ++ (aim n high ++ (10 ∷ []))) a b e ha (omega (arith, length-pair level number)) f
-      (puts-both (at + 10) (at + 20) (aim n low) (aim n high ++ (10 ∷ [])) b c e hb (omega (arith, length-aim n low)) g
-        (puts-end (at + 20) (at + 30) n high c d e hc (omega arith) k l))
+    (puts-both (at + 10) (at + 20) (aim n low) (aim n high ++ (10 ∷ [])) b c e hb (omega (arith, length-aim n low)) g
+    (puts-end (at + 20) (at + 30) n high c d e hc (omega arith) k l))
 
 -- the records up to a place and the one at it
 pub take-nth : (rs : List Record) (i : ℕ) (r : Record) → Some r ≡ nth rs i → take (i + 1) rs ≡ take i rs ++ (r ∷ [])
@@ -139,8 +139,8 @@ puts-text n m t rs a b c len l e f g =
 pub puts-report : (x y z : ℕ) (a b c d e : List ℕ) → 6 ≤ length b → 12 ≤ length c → Puts 0 (padded 6 x) a b → Puts 6 (padded 6 y) b c → Puts 12 (padded 6 z) c d → Puts 18 (10 ∷ []) d e → Puts 0 (padded 6 x ++ (padded 6 y ++ (padded 6 z ++ (10 ∷ [])))) a e
 puts-report x y z a b c d e lb lc p q r s =
     puts-both 0 6 (padded 6 x) (padded 6 y ++ (padded 6 z ++ (10 ∷ []))) a b e (omega arith) (omega (arith, length-padded 6 x)) p
-      (puts-both 6 12 (padded 6 y) (padded 6 z ++ (10 ∷ [])) b c e lb (omega (arith, length-padded 6 y)) q
-        (puts-both 12 18 (padded 6 z) (10 ∷ []) c d e lc (omega (arith, length-padded 6 z)) r s))
+    (puts-both 6 12 (padded 6 y) (padded 6 z ++ (10 ∷ [])) b c e lb (omega (arith, length-padded 6 y)) q
+    (puts-both 12 18 (padded 6 z) (10 ∷ []) c d e lc (omega (arith, length-padded 6 z)) r s))
 
 pub length-report : (x y z : ℕ) → length (padded 6 x ++ (padded 6 y ++ (padded 6 z ++ (10 ∷ [])))) ≡ 19
 length-report x y z = simp (length-append, length-padded)

@@ -2,7 +2,6 @@
 
 ghost use mathlib.Core.Path.{_≡_};
 ghost use Rattle.text.specs.Faults.{told, told-write};
-
 use listing::reports::Report;
 
 /// Why a text is not opened.
@@ -21,8 +20,16 @@ impl TextFault {
         ensures { λ r. ⌜ r ≡ told self ⌝ }
     {
         match self {
-            TextFault::Length => Report { number: 3, place: 0, detail: 0 },
-            TextFault::Column { line, column } => Report { number: 4, place: line, detail: column },
+            TextFault::Length => Report {
+                number: 3,
+                place: 0,
+                detail: 0,
+            },
+            TextFault::Column { line, column } => Report {
+                number: 4,
+                place: line,
+                detail: column,
+            },
         }
     }
 }
@@ -40,7 +47,11 @@ impl WriteFault {
         ensures { λ r. ⌜ r ≡ told-write self ⌝ }
     {
         match self {
-            WriteFault::Short => Report { number: 18, place: 0, detail: 0 },
+            WriteFault::Short => Report {
+                number: 18,
+                place: 0,
+                detail: 0,
+            },
         }
     }
 }

@@ -10,7 +10,6 @@ ghost use Rattle.std.specs.declared.option.Option.the-variants.{Some, None};
 ghost use Rattle.std.specs.shelf.Maps.{nth};
 ghost use Rattle.text.specs.Layout.{width, line-fault, at-line, target-of, record-of, lines-fault, body-fault, text-fault};
 ghost use Rattle.text.specs.Opened.{listed-of, Opened};
-
 use crate::columns::column_at;
 use crate::columns::value_at;
 use crate::faults::TextFault;
@@ -57,7 +56,11 @@ fn line_fault(bytes: &[u8], columns: usize) -> Option<u32>
         };
         at += width;
     }
-    if bytes[at] == b'\n' { None } else { Some(columns as u32 + 1) }
+    if bytes[at] == b'\n' {
+        None
+    } else {
+        Some(columns as u32 + 1)
+    }
 }
 
 // The first fault in the `count` lines behind the header.
@@ -68,7 +71,10 @@ fn lines_fault(bytes: &[u8], count: u32) -> Option<TextFault>
     for i in 0..count {
         let start = HEADER + LINE * i as usize;
         if let Some(column) = line_fault(&bytes[start..], 6) {
-            return Some(TextFault::Column { line: i + 1, column });
+            return Some(TextFault::Column {
+                line: i + 1,
+                column,
+            });
         }
     }
     None
@@ -150,7 +156,11 @@ fn text_of<'a>(bytes: &'a [u8]) -> Text<'a>
     let n = value_at(bytes, 0, 4) as u16;
     let root_level = value_at(bytes, 10, 4) as u16;
     let root_number = value_at(bytes, 14, 6);
-    Text { bytes, n, root: target_of(n, root_level, root_number) }
+    Text {
+        bytes,
+        n,
+        root: target_of(n, root_level, root_number),
+    }
 }
 
 impl<'a> Text<'a> {

@@ -5,7 +5,6 @@ ghost use Prim.Native.Nat.{_+_, _<_, _≤_};
 ghost use lib.ListN.{length};
 ghost use Rattle.std.specs.Results.{Cases as ByOk};
 ghost use Rattle.text.specs.Writing.{padded, Puts, report-line, Reported};
-
 use crate::faults::WriteFault;
 use crate::writing::put_feed;
 use crate::writing::put_number;

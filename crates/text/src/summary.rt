@@ -3,14 +3,13 @@
 ghost use mathlib.Core.Path.{_≡_};
 ghost use Rattle.std.specs.Results.{Cases as ByOk};
 ghost use Rattle.text.specs.Summary.{Summed, Refuses};
-
 use crate::faults::TextFault;
 use crate::opening::Text;
 use crate::opening::TextSource;
-use listing::reports::Report;
 use listing::Target;
-use source::counting::count_levels;
+use listing::reports::Report;
 use source::Source;
+use source::counting::count_levels;
 
 /// A text's number of facts, its number of records and its root.
 #[derive(Clone, Copy)]
@@ -30,7 +29,11 @@ pub fn summarize(bytes: &[u8], counts: &mut [usize]) -> Result<Summary, Report>
         Err(fault) => Err(fault.report()),
         Ok(text) => {
             count_levels(&text, counts);
-            Ok(Summary { facts: text.n(), records: text.count(), root: text.root() })
+            Ok(Summary {
+                facts: text.n(),
+                records: text.count(),
+                root: text.root(),
+            })
         }
     }
 }

@@ -9,7 +9,6 @@ ghost use Rattle.std.specs.Joined.{joined};
 ghost use Rattle.std.specs.Options.{Cases as BySome};
 ghost use Rattle.std.specs.Results.{Cases as ByOk};
 ghost use Rattle.text.specs.Writing.{lead, padded, pair, level-of, number-of, aim, header, columns, line, Puts, Wrote, Opens-again};
-
 use crate::faults::WriteFault;
 use crate::opening::HEADER;
 use crate::opening::LINE;
@@ -21,7 +20,11 @@ use source::Source;
 fn lead(rest: usize) -> u8
     ensures { λ r. ⌜ r ≡ lead rest ⌝ }
 {
-    if rest == 0 { b' ' } else { b'0' + (rest % 10) as u8 }
+    if rest == 0 {
+        b' '
+    } else {
+        b'0' + (rest % 10) as u8
+    }
 }
 
 // Fills a column with a number.
@@ -74,7 +77,12 @@ fn put_target(out: &mut [u8], at: usize, n: u16, target: Target)
     requires { ⌜ at + 10 ≤ length (now out) ⌝ }
     ensures { λ _. ⌜ Puts at (aim n target) (now (out .entry)) (now (out .exit)) ⌝ }
 {
-    put_pair(out, at, level_of(n, target) as usize, number_of(target) as usize);
+    put_pair(
+        out,
+        at,
+        level_of(n, target) as usize,
+        number_of(target) as usize,
+    );
 }
 
 // Ends a line: the byte at `at` becomes a line feed.
@@ -104,7 +112,15 @@ fn put_header<S: Source>(source: &S, out: &mut [u8])
 }
 
 // Writes the columns of a record's line from `at` on, and its line feed.
-fn put_columns(out: &mut [u8], at: usize, n: u16, level: u16, number: u32, low: Target, high: Target)
+fn put_columns(
+    out: &mut [u8],
+    at: usize,
+    n: u16,
+    level: u16,
+    number: u32,
+    low: Target,
+    high: Target,
+)
     requires { ⌜ at + 31 ≤ length (now out) ⌝ }
     ensures { λ _. ⌜ Puts at (columns n level number low high) (now (out .entry)) (now (out .exit)) ⌝ }
 {

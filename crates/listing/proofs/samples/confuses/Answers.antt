@@ -5,8 +5,9 @@ use Rattle.listing.proofs.samples.confuses.Needs as need
 
 pub returns : need.returns
 returns c = record {
-    listing = decides.is-listing (c .args .n) (c .args .root) (c .args .records .now) .0 (c .pre .listing);
-    first = decides.within (c .args .records .now) (c .args .t) .0 (c .pre .first);
-    second = decides.within (c .args .records .now) (c .args .u) .0 (c .pre .second);
-    alike = decides.agrees (c .args .n) (c .args .records .now) (c .args .t) (c .args .records .now) (c .args .u) .0 (c .pre .alike);
-    differ = λ e. both-ways (same-target (c .args .t) (c .args .u)) (c .pre .differ) (decides.same-target (c .args .t) (c .args .u) .1 e) }
+  listing = decides.is-listing (c .args .n) (c .args .root) (c .args .records .now) .0 (c .pre .listing);
+  first = decides.within (c .args .records .now) (c .args .t) .0 (c .pre .first);
+  second = decides.within (c .args .records .now) (c .args .u) .0 (c .pre .second);
+  alike = decides.agrees (c .args .n) (c .args .records .now) (c .args .t) (c .args .records .now) (c .args .u) .0 (c .pre .alike);
+  differ = λ e. both-ways (same-target (c .args .t) (c .args .u)) (c .pre .differ) (decides.same-target (c .args .t) (c .args .u) .1 e);
+}

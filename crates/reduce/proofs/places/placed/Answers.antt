@@ -12,4 +12,4 @@ cast-result g c =
 pub returns-in-Some : need.returns-in-Some
 returns-in-Some g c =
     placed-node (g .S·Source .listed (c .args .source .now)) (ordered (g .S·Source .listed (c .args .source .now)) (c .pre .numbered)) (c .args .level) (c .args .t) (c .in-Node .own) (c .in-Node .number) (c .in-Some .place)
-      (c .in-Node .is) (omega arith) (c .in-Some .ensures tt)
+    (c .in-Node .is) (omega arith) (c .in-Some .ensures tt)

@@ -10,4 +10,5 @@ pub returns : need.returns
 returns c =
     record {
       count = omega (arith, c .compact-count .ensures .count);
-      normal = λ n root g. subst⁻¹ (λ (v : List Record). Normalizes n root (given 0 (c .args .rows .now)) (c .reduce-root .result) v) (c .compact-count .ensures .records) (c .reduce-root .ensures n root g) }
+      normal = λ n root g. subst⁻¹ (λ (v : List Record). Normalizes n root (given 0 (c .args .rows .now)) (c .reduce-root .result) v) (c .compact-count .ensures .records) (c .reduce-root .ensures n root g);
+    }

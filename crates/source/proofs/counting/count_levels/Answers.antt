@@ -20,12 +20,13 @@ add-counts g c =
 pub loop-place-again : need.loop-place-again
 loop-place-again g c =
     elim (c .if-level-counts .came) [
-      then-level-counts w ↦
-        subst⁻¹ (λ (cs : List ℕ). Counts cs (g .S·Source .listed (c .args .source .now)) (c .loop-place .place + 1)) (w .counts-is)
+      | then-level-counts w ↦
+          subst⁻¹ (λ (cs : List ℕ). Counts cs (g .S·Source .listed (c .args .source .now)) (c .loop-place .place + 1)) (w .counts-is)
           (count-here (c .loop-place .counts) (g .S·Source .listed (c .args .source .now)) (c .loop-place .place) (c .in-Some .r) (c .in-Some .ensures tt) (c .loop-place .inv) (w .if-level-counts .taken))
-    | else-level-counts w ↦
-        subst⁻¹ (λ (cs : List ℕ). Counts cs (g .S·Source .listed (c .args .source .now)) (c .loop-place .place + 1)) (w .counts-is)
-          (count-none (c .loop-place .counts) (g .S·Source .listed (c .args .source .now)) (c .loop-place .place) (c .in-Some .r) (c .in-Some .ensures tt) (c .loop-place .inv) (w .if-level-counts .left)) ]
+      | else-level-counts w ↦
+          subst⁻¹ (λ (cs : List ℕ). Counts cs (g .S·Source .listed (c .args .source .now)) (c .loop-place .place + 1)) (w .counts-is)
+          (count-none (c .loop-place .counts) (g .S·Source .listed (c .args .source .now)) (c .loop-place .place) (c .in-Some .r) (c .in-Some .ensures tt) (c .loop-place .inv) (w .if-level-counts .left))
+    ]
 
 pub returns : need.returns
 returns g c k b =

@@ -11,4 +11,5 @@ returns g c =
       root = c .pre .root ∙ twice (g .S·Source .top (c .args .source .now));
       count = c .pre .count ∙ ap length (twice-all (g .S·Source .listed (c .args .source .now)));
       placed = c .pre .placed ∙ ap (λ rs. nth rs (c .args .place)) (twice-all (g .S·Source .listed (c .args .source .now)));
-      negates = negates (g .S·Source .facts (c .args .source .now)) (g .S·Source .top (c .args .source .now)) (g .S·Source .listed (c .args .source .now)) }
+      negates = negates (g .S·Source .facts (c .args .source .now)) (g .S·Source .top (c .args .source .now)) (g .S·Source .listed (c .args .source .now));
+    }

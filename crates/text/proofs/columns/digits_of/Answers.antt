@@ -16,9 +16,10 @@ pub add-value : need.add-value
 add-value c = omega (arith, pow-8 (c .loop-b .b-index) (omega arith))
 
 pub loop-b-again : need.loop-b-again
-loop-b-again c =
-    (digits-yes (c .args .text .now) (c .loop-b .b-index) (c .loop-b .value) (omega arith) (omega arith) (omega arith) ∙ c .loop-b .inv .0,
-     value-below (c .loop-b .value) (getD (c .args .text .now) (c .loop-b .b-index) 0 - 48) (c .loop-b .b-index) (c .loop-b .inv .1) (omega arith))
+loop-b-again c = (
+  digits-yes (c .args .text .now) (c .loop-b .b-index) (c .loop-b .value) (omega arith) (omega arith) (omega arith) ∙ c .loop-b .inv .0,
+  value-below (c .loop-b .value) (getD (c .args .text .now) (c .loop-b .b-index) 0 - 48) (c .loop-b .b-index) (c .loop-b .inv .1) (omega arith),
+)
 
 pub returns : need.returns
 returns c =

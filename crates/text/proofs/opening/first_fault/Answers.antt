@@ -16,5 +16,6 @@ either (Some f) P h = tt
 
 pub returns : need.returns
 returns c = record {
-    fault = c .header-fault .ensures ∙ sym (text-long (c .args .bytes .now) (omega arith));
-    long = either (c .header-fault .result) _ (omega arith) }
+  fault = c .header-fault .ensures ∙ sym (text-long (c .args .bytes .now) (omega arith));
+  long = either (c .header-fault .result) _ (omega arith);
+}

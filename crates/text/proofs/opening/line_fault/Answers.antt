@@ -8,15 +8,16 @@ use Rattle.text.proofs.opening.line_fault.Needs as need
 pub returns-in-rest : need.returns-in-rest
 returns-in-rest c =
     line-none (c .args .bytes .now) (c .loop-k .at) (c .loop-k .k) (c .args .columns - (c .loop-k .k + 1)) (c .args .columns - c .loop-k .k) (c .width-of-width .result) (omega arith) (c .width-of-width .ensures .width)
-        (c .in-rest .ensures tt .value)
+    (c .in-rest .ensures tt .value)
     ∙ c .loop-k .inv .0
 
 pub loop-k-again : need.loop-k-again
-loop-k-again c =
-    (line-some (c .args .bytes .now) (c .loop-k .at) (c .loop-k .k) (c .args .columns - (c .loop-k .k + 1)) (c .args .columns - c .loop-k .k) (c .width-of-width .result) (omega arith) (c .width-of-width .ensures .width)
-        (c .in-Some .field-0) (c .in-Some .ensures tt .value)
-    ∙ c .loop-k .inv .0,
-    omega (arith, c .width-of-width .ensures .next))
+loop-k-again c = (
+  line-some (c .args .bytes .now) (c .loop-k .at) (c .loop-k .k) (c .args .columns - (c .loop-k .k + 1)) (c .args .columns - c .loop-k .k) (c .width-of-width .result) (omega arith) (c .width-of-width .ensures .width)
+      (c .in-Some .field-0) (c .in-Some .ensures tt .value)
+      ∙ c .loop-k .inv .0,
+  omega (arith, c .width-of-width .ensures .next),
+)
 
 pub returns-then-bytes-at-eq10 : need.returns-then-bytes-at-eq10
 returns-then-bytes-at-eq10 c = feed-yes (c .args .bytes .now) (c .loop-k .at) (c .loop-k .k) (c .args .columns - c .loop-k .k) (omega arith) (c .if-bytes-at-eq10 .taken) ∙ c .loop-k .inv .0

@@ -6,11 +6,11 @@ use Rattle.text.proofs.opening.text_of.Needs as need
 pub returns : need.returns
 returns c =
     let w : Well-formed (c .args .bytes .now) = well-formed (c .args .bytes .now) (c .pre .faultless) in
-    record
-      { faultless = c .pre .faultless
-      ; well = w
-      ; bytes = refl
-      ; facts = c .value-at-n .ensures .value
-      ; root = cc
-      ; records = whole-lines (c .args .bytes .now) (c .value-at-n .result) (w .size) (c .value-at-n .ensures .value)
-      }
+    record {
+      faultless = c .pre .faultless;
+      well = w;
+      bytes = refl;
+      facts = c .value-at-n .ensures .value;
+      root = cc;
+      records = whole-lines (c .args .bytes .now) (c .value-at-n .result) (w .size) (c .value-at-n .ensures .value);
+    }

@@ -15,9 +15,9 @@ returns-in-rest g c = absurd (nth-within (g .S·Source .listed (c .args .source 
 pub loop-place-again : need.loop-place-again
 loop-place-again g c =
     puts-more (g .S·Source .facts (c .args .source .now)) (c .n-n .result) (c .loop-place .place) (g .S·Source .listed (c .args .source .now)) (c .in-Some .r) (c .args .out .now) (c .loop-place .out) (c .put-line .last .out)
-      (c .n-n .ensures) (omega arith) (omega arith) (c .in-Some .ensures tt) (c .loop-place .inv) (c .put-line .ensures)
+    (c .n-n .ensures) (omega arith) (omega arith) (c .in-Some .ensures tt) (c .loop-place .inv) (c .put-line .ensures)
 
 pub returns : need.returns
 returns g c =
     subst (λ (rs : List Record). Puts 21 (joined (line (g .S·Source .facts (c .args .source .now))) rs) (c .args .out .now) (c .loop-place .out))
-      (take-all (c .loop-place .place) (g .S·Source .listed (c .args .source .now)) (omega arith)) (c .loop-place .inv)
+    (take-all (c .loop-place .place) (g .S·Source .listed (c .args .source .now)) (omega arith)) (c .loop-place .inv)

@@ -12,7 +12,7 @@ loop-i-holds c = last-digit (c .args .column .now) (length (c .args .column .now
 pub loop-i-again : need.loop-i-again
 loop-i-again c =
     c .loop-i .inv ∙ one-digit (c .loop-i .column) (c .loop-i .i - 1) (c .loop-i .i) (c .loop-i .rest) (c .lead .result) (omega arith)
-      (omega (arith, length-set (c .args .column .now) (length (c .args .column .now) - 1) (48 + c .args .value % 10))) (c .lead .ensures)
+    (omega (arith, length-set (c .args .column .now) (length (c .args .column .now) - 1) (48 + c .args .value % 10))) (c .lead .ensures)
 
 pub returns : need.returns
 returns c =

@@ -12,4 +12,5 @@ returns g c =
     let text = puts-text n (length rs) root rs (c .args .out .now) (c .put-header .last .out) (c .put-lines .last .out) (c .args .len) (c .pre .size) refl (c .put-header .ensures) (c .put-lines .ensures) in
     record {
       wrote = record { size = c .pre .size; text = text };
-      again = front-again n root rs (c .put-lines .last .out) (drop (c .args .len) (c .args .out .now)) (c .args .len) (c .pre .size) text }
+      again = front-again n root rs (c .put-lines .last .out) (drop (c .args .len) (c .args .out .now)) (c .args .len) (c .pre .size) text;
+    }
