@@ -3,6 +3,8 @@
 #[cfg(test)]
 mod normalized;
 #[cfg(test)]
+mod stacked;
+#[cfg(test)]
 mod texts;
 #[cfg(test)]
 mod written;
