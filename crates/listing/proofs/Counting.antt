@@ -43,10 +43,6 @@ distinct-append [] ys dx dy h = dy
 distinct-append (x ∷ xs) ys dx dy h =
     ((λ m. ⊎-elim (dx .0) (h x (inl refl)) (in-append x xs ys m)), distinct-append xs ys (dx .1) dy (λ y m k. h y (inr m) k))
 
-tail : List Bool → List Bool
-tail [] = []
-tail (b ∷ s) = s
-
 same-tail : (b : Bool) (s z : List Bool) → b ∷ s ≡ b ∷ z → s ≡ z
 same-tail b s z e = cc
 

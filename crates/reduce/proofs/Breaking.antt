@@ -82,10 +82,6 @@ numbered-from (r ∷ rs) i h f = (
 )
 
 module _ (rs : List Record) where
-  pub numbered-absent : (i : ℕ) → None ≡ nth rs i → Misnumbered rs i → ⊥
-  numbered-absent zero e w = let a = w .1 in let z : _≡_ {A = ℕ} 0 1 = cc in omega arith
-  numbered-absent (suc i) e w = let a = w .3 in let z : _≡_ {A = ℕ} 0 1 = cc in omega arith
-
   pub misnumbered-first : (i : ℕ) (r : Record) (b : Bool) → i ≡ 0 → Some r ≡ nth rs i → Decides b (r .number ≡ 0 → ⊥) → Decides b (Misnumbered rs i)
   misnumbered-first zero r b z e d = (
     (λ t. (r, sym e, d .0 t)),

@@ -20,9 +20,6 @@ pub record Inner (n : ℕ) (root : Target) (xs : List Record) : Type 0 where
   pub chained : Chain xs
   pub aimed : Aimed xs
 
-pub inner-listing : (n : ℕ) (root : Target) (xs : List Record) → Listing n root xs → Inner n root xs
-inner-listing n root xs h = record { rooted = h .rooted; levels = h .levelled; chained = chain n root xs h; aimed = h .aimed }
-
 pub placed-le : (k : ℕ) (rs : List Record) → Placed k rs → (q : Record) → In q rs → k ≤ q .number
 placed-le k [] h q m = absurd m
 placed-le k (r ∷ rs) h q (inl e) = omega (arith, ap (λ (x : Record). x .number) e)

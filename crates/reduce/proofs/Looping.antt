@@ -101,9 +101,6 @@ module _ (R xs : List Row) (a b k : ℕ) (kb : k < b) (kx : k < length xs) (h : 
         inside = subst (λ (w : List Row). AllInside (length R) w) here (h .inside) .1;
       }
 
-pub mapping-none : (R : List Row) (a b : ℕ) → AllInside (length R) (part a b R) → Mapping R a b a R
-mapping-none R a b h = record { done = refl; rest = refl; images = refl; inside = h }
-
 pub mapping-all : (R xs : List Row) (a b k : ℕ) → k ≡ b → Mapping R a b k xs → xs ≡ mapped-level a b R
 mapping-all R xs a b k e h =
     sym (take-append-drop k xs) ∙
@@ -150,9 +147,6 @@ module _ (R xs : List Row) (a b k : ℕ) (kb : k < b) (kx : k < length R) (h : W
         bares = map-set-same bare xs (getD xs k no-row .own) v no-row (ap bare ev) ∙ h .bares;
         inside = subst (λ (w : List Row). OwnInside (length R) w) there (h .inside) .1;
       }
-
-pub writing-none : (R : List Row) (a b : ℕ) → OwnInside (length R) (part a b R) → Writing R a b a R
-writing-none R a b h = record { rest = refl; bares = refl; inside = h }
 
 pub writing-all : (R xs : List Row) (a b k : ℕ) → b ≤ k → Writing R a b k xs → xs ≡ write-back R (part a b R)
 writing-all R xs a b k e h = sym (h .rest ∙ ap (write-back xs) (part-none R k b e))
