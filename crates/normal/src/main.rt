@@ -33,9 +33,10 @@ fn run(rt: &LibcRuntime) -> Result<(), AnyError> {
         output.as_mut_slice(),
     ) {
         Ok(len) => {
-            if len <= output.len() {
-                rt.stdout().write_all(&output.as_slice()[0..len])?;
+            if len > output.len() {
+                return Err("the length told is beyond the output".into());
             }
+            rt.stdout().write_all(&output.as_slice()[0..len])?;
             Ok(())
         }
         Err(_) => Err("the output has no room for a fault".into()),
