@@ -1,6 +1,8 @@
 // Reads a listing's text from standard input and prints a record of it: the number of facts and of records, the
 // root, and how many records each level has; or the fault that keeps it from being opened.
 
+#![tactic(auto)]
+
 mod printing;
 
 use printing::{print_fault, print_summary};

@@ -73,5 +73,5 @@ ranks_target True False = tt
 ranks_target True True = refl
 
 -- so the order of targets is total and transitive
-abbrev pub target_total : IsTotalOrder (λ (x y : Target) (r : Ordering). MatchOrdering r (Before x y) (x ≡ y) (Before y x))
+abbrev pub target_total : IsTotalOrder rank_target
 target_total = strict Before before_irr before_trans rank_target ranks_target

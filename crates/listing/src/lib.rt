@@ -2,6 +2,8 @@
 // Everything above cites the definitions in specs/: Settings, Listing, Meaning.
 // A listing is n, a root and a list of records; here the records lie in the caller's slice.
 
+#![tactic(auto)]
+
 ghost use Rattle.std.specs.Prelude.{◌≡◌, Decides};
 ghost use Rattle.listing.specs.Listing.{node, names, child, is_true, Before, Rises, RecordBefore};
 ghost use Rattle.listing.specs.Meaning.{ToldApart};

@@ -1,6 +1,8 @@
 // Reads a listing's text from standard input and writes its normal text to standard output; or, where it has a fault,
 // the fault's number, place and detail in columns of 6.
 
+#![tactic(auto)]
+
 use anyhow::anyhow;
 use listing::{Record, Target};
 use normalizing::texts::{MOST_BYTES, normal_bytes};

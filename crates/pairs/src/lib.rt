@@ -2,6 +2,8 @@
 // The definitions are in specs/: Pairs (operator, children, open pairs, order), Rows (rows, cuts, how a run comes out),
 // Records (rows read as records, and their value). Sweeps over queues are built on them in the crate above.
 
+#![tactic(auto)]
+
 pub mod keys;
 pub mod opening;
 pub mod operators;

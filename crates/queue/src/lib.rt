@@ -2,10 +2,12 @@
 // of its own.
 // A queue's meaning is the bag of waiting elements, a fixed capacity, and the next element, one of the least.
 // Nothing here allocates; a sweep that is written over `Queue` works with every one of them.
+#![tactic(auto)]
+
 ghost use Rattle.std.specs.Prelude.{◌≡◌, ℕ, ◌-◌, ◌^◌, ◌≤◌, min, List, [], length, IsSomeAnd, Some, Option, OnErr, ◌==◌, refl};
 ghost use Rattle.std.specs.declared.cmp.Ordering.{Ordering};
 ghost use Rattle.std.specs.Cmp as std-keys;
-ghost use Rattle.std.specs.Ordering.{is_eq, is_gt};
+ghost use Rattle.std.specs.Ordering.{is_eq, is_gt, nat_cmp};
 ghost use Rattle.queue.specs.Rank.{Lawful, unsigned_lawful};
 ghost use Rattle.queue.specs.Waiting.{element, Least, Put, Taken};
 ghost use Rattle.queue.specs.declared.Element.{Element};
@@ -154,7 +156,7 @@ pub fn drain<K: Key, V: Copy, Q: Queue<K, V>>(queue: &mut Q)
 }
 
 impl Key for u64 {
-    ghost rank = { std-keys.rank };
+    ghost rank = { nat_cmp };
 
     ghost lawful = { unsigned_lawful };
 

@@ -1,5 +1,7 @@
 // A slot in front of a queue: it holds one element, which comes after none that waits below, and adds one to the capacity.
 // So what is put as the least and taken before a lesser one comes never goes below. A front slot is a queue: slots stack.
+#![tactic(auto)]
+
 ghost use Rattle.std.specs.Prelude.{◌≡◌, ◌+◌, if◌then◌else◌, None};
 ghost use Rattle.std.specs.Ordering.{is_gt};
 ghost use Rattle.queue_front.specs.Front.{front, foremost, Fronts, front_fits};

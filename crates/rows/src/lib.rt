@@ -1,5 +1,7 @@
 // Work rows, one a record, and the rule check over any source, which fills them. Crate `reduce` makes rows normal.
 
+#![tactic(auto)]
+
 pub mod checking;
 pub mod faults;
 mod marks;

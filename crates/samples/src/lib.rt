@@ -1,5 +1,7 @@
 // What is tried rather than proved: tables of cases over the public calls.
 
+#![tactic(auto)]
+
 #[cfg(test)]
 mod normalized;
 #[cfg(test)]

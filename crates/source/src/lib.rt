@@ -1,6 +1,8 @@
 // Sources: whatever can tell a listing's n, root and records.
 // A source's meaning is n, a root and a list of records; nothing says yet that they keep the rules of a listing.
 
+#![tactic(auto)]
+
 ghost use Rattle.std.specs.Prelude.{◌≡◌, ℕ, List, length};
 ghost use Rattle.std.specs.List.{slice_get};
 ghost use Rattle.listing.specs.declared.Target.{Target};

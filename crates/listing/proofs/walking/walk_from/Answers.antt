@@ -12,13 +12,13 @@ pub loop-r-preserved : goal.loop-r-preserved
 loop-r-preserved c =
     step_walk c.args.records.now (fact (map bit c.args.setting.now)) c.loop-r.target _ c.loop-r.r-index _ (omega arith)
     (elim c.if-names.branch [
-      | then-names w ↦ w.target-is ∙ (rw w.fact-of.ensures at w.child-target.ensures) ∙ sym (cond-true _ _ _ (sym c.names.ensures ∙ w.if-names.true))
+      | then-names w ↦ w.target-is ∙ (rw w.fact_of.ensures at w.child-target.ensures) ∙ sym (cond-true _ _ _ (sym c.names.ensures ∙ w.if-names.true))
       | else-names w ↦ w.target-is ∙ sym (cond-false _ _ _ (sym c.names.ensures ∙ w.if-names.false))
     ])
     ∙ c.loop-r.invariant
 
 pub returns : goal.returns
 returns c = record {
-  value = c.is-true.ensures ∙ sym (at_drop_all (λ rs. value rs (map bit c.args.setting.now) c.loop-r.target) c.args.records.now c.loop-r.r-index (omega arith)) ∙ c.loop-r.invariant;
+  value = c.is_true.ensures ∙ sym (at_drop_all (λ rs. value rs (map bit c.args.setting.now) c.loop-r.target) c.args.records.now c.loop-r.r-index (omega arith)) ∙ c.loop-r.invariant;
   only = only_value c.args.start c.args.records.now (map bit c.args.setting.now);
 }
