@@ -8,7 +8,7 @@ use crate::Source;
 /// Writes at each place of `counts` how many of the source's records have that place as their level; levels
 /// behind the last place are left out. One pass over the records.
 pub fn count_levels<S: Source>(source: &S, counts: &mut [usize])
-    ensures { (k : ℕ) → k < length counts.new → slice_index counts.new k ≡ on_level k (listed source.now) }
+    ensures { (k : ℕ) → k < length counts.new → slice_index counts.new k ≡ on_level k (S.listed source.now) }
 {
     counts.fill(0);
     for place in 0..source.count() {

@@ -38,14 +38,14 @@ fn swapped_record(r: Record) -> Record
 
 // As many records as below.
 fn count_of<S: Source>(below: &S) -> usize
-    ensures { result ≡ length (map exchanged_record (listed below.now)) }
+    ensures { result ≡ length (map exchanged_record (S.listed below.now)) }
 {
     below.count()
 }
 
 // The record at a place below, exchanged.
 fn record_of<S: Source>(below: &S, place: usize) -> Option<Record>
-    ensures { result ≡ slice_get (map exchanged_record (listed below.now)) place }
+    ensures { result ≡ slice_get (map exchanged_record (S.listed below.now)) place }
 {
     match below.record(place) {
         Some(r) => Some(swapped_record(r)),
@@ -89,11 +89,11 @@ pub struct Told {
 /// What the exchange of the exchange of a source tells. It is what the source itself tells. Of a listing by the
 /// rules, a single exchange is a listing by the rules too, and its value is the other one at every setting.
 pub fn exchanged_twice<S: Source>(source: &S, place: usize) -> Told
-    ensures n { result.n ≡ facts source.now }
-    ensures root { result.root ≡ top source.now }
-    ensures count { result.count ≡ length (listed source.now) }
-    ensures placed { result.placed ≡ slice_get (listed source.now) place }
-    ensures negates { Negates (facts source.now) (top source.now) (listed source.now) }
+    ensures n { result.n ≡ S.facts source.now }
+    ensures root { result.root ≡ S.top source.now }
+    ensures count { result.count ≡ length (S.listed source.now) }
+    ensures placed { result.placed ≡ slice_get (S.listed source.now) place }
+    ensures negates { Negates (S.facts source.now) (S.top source.now) (S.listed source.now) }
 {
     let twice = Exchanged {
         below: Exchanged { below: source },
@@ -112,15 +112,15 @@ pub fn exchanged_twice<S: Source>(source: &S, place: usize) -> Told
 
 // Carries the theorems of the exchange: `told` is what the exchange of the exchange tells.
 fn restored<S: Source>(source: &S, place: usize, told: Told) -> Told
-    requires n { told.n ≡ facts source.now }
-    requires root { told.root ≡ exchanged (exchanged (top source.now)) }
-    requires count { told.count ≡ length (map exchanged_record (map exchanged_record (listed source.now))) }
-    requires placed { told.placed ≡ slice_get (map exchanged_record (map exchanged_record (listed source.now))) place }
-    ensures n { result.n ≡ facts source.now }
-    ensures root { result.root ≡ top source.now }
-    ensures count { result.count ≡ length (listed source.now) }
-    ensures placed { result.placed ≡ slice_get (listed source.now) place }
-    ensures negates { Negates (facts source.now) (top source.now) (listed source.now) }
+    requires n { told.n ≡ S.facts source.now }
+    requires root { told.root ≡ exchanged (exchanged (S.top source.now)) }
+    requires count { told.count ≡ length (map exchanged_record (map exchanged_record (S.listed source.now))) }
+    requires placed { told.placed ≡ slice_get (map exchanged_record (map exchanged_record (S.listed source.now))) place }
+    ensures n { result.n ≡ S.facts source.now }
+    ensures root { result.root ≡ S.top source.now }
+    ensures count { result.count ≡ length (S.listed source.now) }
+    ensures placed { result.placed ≡ slice_get (S.listed source.now) place }
+    ensures negates { Negates (S.facts source.now) (S.top source.now) (S.listed source.now) }
 {
     told
 }

@@ -6,9 +6,9 @@ use Rattle.normalizing.proofs.texts.normal_text.Goals as goal
 
 pub returns : goal.returns
 returns c =
-    let o : Opened c.args.input.now c.in-ok-text.text = c.in-ok-text.ensures in
-    let f : Facts c.n-n.result = c.facts-allowed.ensures.0 c.if-not-facts-allowed.false in (
+    let o : Opened c.args.input.now c.in_ok-text.text = c.in_ok-text.ensures in
+    let f : Facts c.n-n.result = c.facts_allowed.ensures.0 c.if-not-facts_allowed.false in (
       record { short = omega arith; faultless = o.faultless; facts = subst (λ (k : ℕ). Facts k) (c.n-n.ensures ∙ o.facts) f },
-      made c.args.input.now c.in-ok-text.text _ c.in-ok-loaded.loaded c.n-n.result c.args.output.now c.write-front.new.output c.in-ok-len.len o c.n-n.ensures f
-          c.in-ok-loaded.ensures c.in-ok-len.ensures,
+      made c.args.input.now c.in_ok-text.text _ c.in_ok-loaded.loaded c.n-n.result c.args.output.now c.write_front.new.output c.in_ok-len.len o c.n-n.ensures f
+          c.in_ok-loaded.ensures c.in_ok-len.ensures,
     )

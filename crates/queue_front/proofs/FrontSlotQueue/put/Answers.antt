@@ -28,42 +28,42 @@ returns-in-Ok g c =
       put = two_put law c.in-Some.first e o.result.front o.result.behind o.ensures.front o.ensures.behind xs s.slot c.in-Some.is ys p.put.1 room p.put.0;
     }
 
-pub returns-then-is-after : goal.returns-then-is-after
-returns-then-is-after g c =
+pub returns-then-is_after : goal.returns-then-is_after
+returns-then-is_after g c =
     let law = g.K.Key.lawful in
     let q = g.Q.Queue in
     let s = c.args.self.now in
     let x = c.in-Some-look.next in
     let o = c.take-self.result in
-    let r = c.put-then-is-after.result in
+    let r = c.put-then-is_after.result in
     let room = q.room s.below in
     let xs = q.waiting s.below in
     let ys = q.waiting c.take-self.new.self in
-    let zs = q.waiting c.put-then-is-after.new.self in
+    let zs = q.waiting c.put-then-is_after.new.self in
     let e = element c.args.key c.args.carried in
     let is = both o (Some x) (q.next s.below) c.take-self.ensures.next c.in-Some-look.ensures.next in
     let t = subst (λ v. Taken xs ys v) is c.take-self.ensures.taken in
-    let p = subst (λ n. Put ys n e zs r) c.take-self.ensures.room c.put-then-is-after.ensures.put in
+    let p = subst (λ n. Put ys n e zs r) c.take-self.ensures.room c.put-then-is_after.ensures.put in
     let fits = q.fits s.below c.requires.0 in
     record {
       kept = (
-        c.put-then-is-after.ensures.kept,
-        refill_kept law s.slot o x e c.in-None.is is xs ys zs room r t p c.in-Some-look.ensures.least (after_told law e.key x.key c.if-is-after.ensures),
+        c.put-then-is_after.ensures.kept,
+        refill_kept law s.slot o x e c.in-None.is is xs ys zs room r t p c.in-Some-look.ensures.least (after_told law e.key x.key c.if-is_after.ensures),
       );
-      room = one_more (q.room c.put-then-is-after.new.self) room (through (q.room c.put-then-is-after.new.self) (q.room c.take-self.new.self) room c.put-then-is-after.ensures.room c.take-self.ensures.room);
-      same = refill_same law s.slot o x e c.in-None.is is xs ys zs room r t p fits (λ _. remade o c.put-then-is-after.new.self ≡ s);
+      room = one_more (q.room c.put-then-is_after.new.self) room (through (q.room c.put-then-is_after.new.self) (q.room c.take-self.new.self) room c.put-then-is_after.ensures.room c.take-self.ensures.room);
+      same = refill_same law s.slot o x e c.in-None.is is xs ys zs room r t p fits (λ _. remade o c.put-then-is_after.new.self ≡ s);
       put = refill_put law s.slot o x e c.in-None.is is xs ys zs room r t p fits;
     }
 
-pub returns-else-is-after : goal.returns-else-is-after
-returns-else-is-after g c =
+pub returns-else-is_after : goal.returns-else-is_after
+returns-else-is_after g c =
     let law = g.K.Key.lawful in
     let q = g.Q.Queue in
     let s = c.args.self.now in
     let xs = q.waiting s.below in
     let e = element c.args.key c.args.carried in
     record {
-      kept = (c.requires.0, slot_kept law c.in-Some-look.next e xs c.in-Some-look.ensures.least (upto_told law e.key c.in-Some-look.next.key c.if-is-after.ensures));
+      kept = (c.requires.0, slot_kept law c.in-Some-look.next e xs c.in-Some-look.ensures.least (upto_told law e.key c.in-Some-look.next.key c.if-is_after.ensures));
       room = refl {a = q.room s.below + 1};
       same = tt;
       put = slot_put law s.slot e xs (q.room s.below) c.in-None.is (q.fits s.below c.requires.0);

@@ -5,16 +5,16 @@ use Rattle.rows.specs.Placing.{placing}
 use Rattle.reduce.proofs.Loads.{none_normal, rows_rowing, rows_normal}
 use Rattle.reduce.proofs.loading.reduce_placed.Goals as goal
 
-pub returns-then-is-empty : goal.returns-then-is-empty
-returns-then-is-empty g c = record {
+pub returns-then-is_empty : goal.returns-then-is_empty
+returns-then-is_empty g c = record {
   count = omega arith;
   normal = none_normal (g.S.Source.facts c.args.source.now) (g.S.Source.top c.args.source.now) (g.S.Source.listed c.args.source.now) c.args.rows.now c.requires.listing c.requires.placed
-      c.root.result (eqb-true _ _ (sym c.is-empty.ensures ∙ c.if-is-empty.true)) c.root.ensures;
+      c.root.result (eqb-true _ _ (sym c.is_empty.ensures ∙ c.if-is_empty.true)) c.root.ensures;
 }
 
 pub normalize-requires : goal.normalize-requires
 normalize-requires g c = record {
-  some = omega (arith, eqb-false _ _ (sym c.is-empty.ensures ∙ c.if-is-empty.false));
+  some = omega (arith, eqb-false _ _ (sym c.is_empty.ensures ∙ c.if-is_empty.false));
   small = c.requires.few;
   rows = (
     g.S.Source.facts c.args.source.now,

@@ -4,6 +4,6 @@ use Rattle.rows.proofs.marks.aim_break.Goals as goal
 
 pub returns : goal.returns
 returns c = record {
-  bare = c.mark-targets.ensures.bare;
-  aims = unmarked_answer c.args.rows.now c.mark-targets.new.rows c.first-unmarked.result c.mark-targets.ensures.marks (omega arith) c.first-unmarked.ensures;
+  bare = c.mark_targets.ensures.bare;
+  aims = unmarked_answer c.args.rows.now c.mark_targets.new.rows c.first_unmarked.result c.mark_targets.ensures.marks (omega arith) c.first_unmarked.ensures;
 }

@@ -7,8 +7,8 @@ use Rattle.rows.proofs.places.find.Goals as goal
 pub loop-from-init : goal.loop-from-init
 loop-from-init g c = subst⁻¹ (λ (k : ℕ). Halved (g.S.Source.listed c.args.source.now) c.args.level c.args.number 0 k) c.count-to.ensures (halved_start (g.S.Source.listed c.args.source.now) c.args.level c.args.number)
 
-pub returns-in-default : goal.returns-in-default
-returns-in-default g c = absurd (nth_within (g.S.Source.listed c.args.source.now) (c.loop-from.from + (c.loop-from.to - c.loop-from.from) / 2) (omega (arith, c.loop-from.invariant.0)) c.in-default.ensures)
+pub returns-in_default : goal.returns-in_default
+returns-in_default g c = absurd (nth_within (g.S.Source.listed c.args.source.now) (c.loop-from.from + (c.loop-from.to - c.loop-from.from) / 2) (omega (arith, c.loop-from.invariant.0)) c.in_default.ensures)
 
 pub loop-from-preserved-then-r-number-2 : goal.loop-from-preserved-then-r-number-2
 loop-from-preserved-then-r-number-2 g c =

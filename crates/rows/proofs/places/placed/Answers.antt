@@ -4,8 +4,8 @@ use Rattle.rows.proofs.Breaking.{nth_bound}
 use Rattle.rows.proofs.Finding.{placed_node}
 use Rattle.rows.proofs.places.placed.Goals as goal
 
-pub overflow-cast-result : goal.overflow-cast-result
-overflow-cast-result g c =
+pub overflow_cast-result : goal.overflow_cast-result
+overflow_cast-result g c =
     let w = c.in-Some.ensures in
     omega (arith, nth_bound (g.S.Source.listed c.args.source.now) c.in-Some.place w.0 w.1, c.requires.few)
 

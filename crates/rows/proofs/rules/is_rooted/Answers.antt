@@ -7,7 +7,7 @@ use Rattle.rows.proofs.rules.is_rooted.Goals as goal
 
 pub returns-in-None : goal.returns-in-None
 returns-in-None g c =
-    subst⁻¹ (λ (b : Bool). Decides b (Rooted (g.S.Source.top c.args.source.now) (g.S.Source.listed c.args.source.now))) (c.is-terminal.ensures ∙ ap terminal c.root.ensures)
+    subst⁻¹ (λ (b : Bool). Decides b (Rooted (g.S.Source.top c.args.source.now) (g.S.Source.listed c.args.source.now))) (c.is_terminal.ensures ∙ ap terminal c.root.ensures)
     (rooted_none (g.S.Source.top c.args.source.now) (g.S.Source.listed c.args.source.now) c.in-None.ensures)
 
 pub returns-in-Some : goal.returns-in-Some

@@ -3,8 +3,8 @@ use Rattle.source.proofs.Places.{nth_within}
 use Rattle.rows.proofs.Breaking.{levelled_from, too_high_not}
 use Rattle.rows.proofs.rules.level_break.Goals as goal
 
-pub returns-in-default : goal.returns-in-default
-returns-in-default g c = absurd (nth_within (g.S.Source.listed c.args.source.now) c.loop-place.place (omega arith) c.in-default.ensures)
+pub returns-in_default : goal.returns-in_default
+returns-in_default g c = absurd (nth_within (g.S.Source.listed c.args.source.now) c.loop-place.place (omega arith) c.in_default.ensures)
 
 pub loop-place-preserved : goal.loop-place-preserved
 loop-place-preserved g c =

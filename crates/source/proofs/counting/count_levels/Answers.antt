@@ -7,11 +7,11 @@ use Rattle.source.proofs.Levels.{Counts, on_level_few, count_here, count_none}
 use Rattle.source.proofs.counting.count_levels.Goals as goal
 use Rattle.source.proofs.counting.count_levels.Goals.{then-level-counts, else-level-counts}
 
-pub returns-in-default : goal.returns-in-default
-returns-in-default g c = absurd (nth_within (g.S.Source.listed c.args.source.now) c.loop-place.place (omega arith) c.in-default.ensures)
+pub returns-in_default : goal.returns-in_default
+returns-in_default g c = absurd (nth_within (g.S.Source.listed c.args.source.now) c.loop-place.place (omega arith) c.in_default.ensures)
 
-pub overflow-add-counts : goal.overflow-add-counts
-overflow-add-counts g c =
+pub overflow_add-counts : goal.overflow_add-counts
+overflow_add-counts g c =
     omega (arith, c.loop-place.invariant c.in-Some.r.level c.if-level-counts.true, on_level_few c.in-Some.r.level (g.S.Source.listed c.args.source.now) c.loop-place.place)
 
 pub loop-place-preserved : goal.loop-place-preserved

@@ -5,8 +5,8 @@ use Rattle.pairs.specs.Pairs.{leads}
 use Rattle.sweep.proofs.Levels.{at_bound, at_some, at_none, lead_false, lead_true}
 use Rattle.sweep.proofs.reading.lead.Goals as goal
 
-pub overflow-add-start : goal.overflow-add-start
-overflow-add-start g c =
+pub overflow_add-start : goal.overflow_add-start
+overflow_add-start g c =
     let h = at_bound _ _ _ c.requires.listing c.args.target c.in-Node.level c.in-Node.number c.in-Node.is c.requires.within c.args.start c.requires.starts in
     omega (arith, c.requires.few)
 

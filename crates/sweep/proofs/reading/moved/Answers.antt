@@ -10,15 +10,15 @@ pub settled-requires : goal.settled-requires
 settled-requires g c = record {
   few = c.requires.few;
   listing = c.requires.listing;
-  within = subst⁻¹ (Within (g.S.Source.listed c.args.source.now)) c.lead.ensures (leads_within _ _ _ c.requires.listing c.args.level c.args.target c.requires.within (sym c.if-is-on.ensures) c.args.high);
+  within = subst⁻¹ (Within (g.S.Source.listed c.args.source.now)) c.lead.ensures (leads_within _ _ _ c.requires.listing c.args.level c.args.target c.requires.within (sym c.if-is_on.ensures) c.args.high);
   fixes = c.requires.fixes;
 }
 
-pub returns-then-is-on : goal.returns-then-is-on
+pub returns-then-is_on : goal.returns-then-is_on
 unfolding move
-returns-then-is-on g c =
-    c.settled.ensures ∙ ap (fixing (g.S.Source.listed c.args.source.now) c.args.reader.fixed) c.lead.ensures ∙ sym (cond-true _ _ _ (sym c.if-is-on.ensures))
+returns-then-is_on g c =
+    c.settled.ensures ∙ ap (fixing (g.S.Source.listed c.args.source.now) c.args.reader.fixed) c.lead.ensures ∙ sym (cond-true _ _ _ (sym c.if-is_on.ensures))
 
-pub returns-else-is-on : goal.returns-else-is-on
+pub returns-else-is_on : goal.returns-else-is_on
 unfolding move
-returns-else-is-on g c = sym (cond-false _ _ _ (sym c.if-is-on.ensures))
+returns-else-is_on g c = sym (cond-false _ _ _ (sym c.if-is_on.ensures))

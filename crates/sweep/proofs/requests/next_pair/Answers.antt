@@ -3,7 +3,7 @@ use Rattle.sweep.proofs.requests.next_pair.Goals as goal
 
 pub returns-in-Some : goal.returns-in-Some
 returns-in-Some g c = record {
-  kept = c.point-all.ensures.kept;
-  room = c.point-all.ensures.room;
-  next = (c.in-Some.e, c.in-Some.ensures.least, refl, c.point-all.ensures.pointed);
+  kept = c.point_all.ensures.kept;
+  room = c.point_all.ensures.room;
+  next = (c.in-Some.e, c.in-Some.ensures.least, refl, c.point_all.ensures.pointed);
 }

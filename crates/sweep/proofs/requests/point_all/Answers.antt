@@ -16,8 +16,8 @@ use Rattle.sweep.proofs.requests.point_all.Goals.{After-take, After-pointing}
 pub loop-e-init : goal.loop-e-init
 loop-e-init g c = (c.requires.kept, refl, pointing_none g.K.Key.rank c.args.key c.args.target _ _)
 
-pub returns-then-not-is-eq : goal.returns-then-not-is-eq
-returns-then-not-is-eq g c =
+pub returns-then-not-is_eq : goal.returns-then-not-is_eq
+returns-then-not-is_eq g c =
     let e = c.in-Some.e in
     let rank = g.K.Key.rank in
     let d = c.loop-e.invariant.2.base in
@@ -26,7 +26,7 @@ returns-then-not-is-eq g c =
     let z =
     on_end rank c.args.key g.K.Key.lawful _ _ e c.requires.least d l.1
     (all_among (λ y. UpTo rank c.args.key y.key) _ low e (has_in _ e l.0))
-    (ap is_eq (sym (g.met.K.Key.says _ _ c.cmp.result c.cmp.ensures)) ∙ sym c.is-eq.ensures ∙ c.if-not-is-eq.true) in
+    (ap is_eq (sym (g.met.K.Key.says _ _ c.cmp.result c.cmp.ensures)) ∙ sym c.is_eq.ensures ∙ c.if-not-is_eq.true) in
     record {
       kept = c.loop-e.invariant.0;
       room = c.loop-e.invariant.1;
@@ -47,14 +47,14 @@ inside g c =
     all_among (λ y. y.carried.row < n) _ (on_all g.K.Key.rank c.args.key (λ y. y.carried.row < n) _ _ c.requires.within c.loop-e.invariant.2.base) c.in-Some.e (has_in _ c.in-Some.e c.in-Some.ensures.least.0) in
     omega (arith, c.loop-e.auto.rows)
 
-pub offset-bounds-rows-at : goal.offset-bounds-rows-at
-offset-bounds-rows-at g c = let h = inside g c in search rules
+pub offset_bounds-rows-at : goal.offset_bounds-rows-at
+offset_bounds-rows-at g c = let h = inside g c in search rules
 
-pub slice-copy-out·pointing : goal.slice-copy-out·pointing
-slice-copy-out·pointing g c = inside g c
+pub slice-copy_out·pointing : goal.slice-copy_out·pointing
+slice-copy_out·pointing g c = inside g c
 
-pub offset-bounds-rows-at-in-Some : goal.offset-bounds-rows-at-in-Some
-offset-bounds-rows-at-in-Some g c = let h = inside g (goal.at.offset-bounds-rows-at-in-Some g c).After-take in search rules
+pub offset_bounds-rows-at-in-Some : goal.offset_bounds-rows-at-in-Some
+offset_bounds-rows-at-in-Some g c = let h = inside g (goal.at.offset_bounds-rows-at-in-Some g c).After-take in search rules
 
 pub bounds-rows-at : goal.bounds-rows-at
 bounds-rows-at g c = inside g (goal.at.bounds-rows-at g c).After-take
@@ -67,6 +67,6 @@ loop-e-preserved g c = (
   c.take.ensures.kept,
   c.take.ensures.room ∙ c.loop-e.invariant.1,
   pointing_more g.K.Key.rank c.args.key c.args.target _ _ _ c.in-Some.e _ _ _ c.loop-e.invariant.2
-      (ap is_eq (sym (g.met.K.Key.says _ _ c.cmp.result c.cmp.ensures)) ∙ sym c.is-eq.ensures ∙ c.if-not-is-eq.false) (taken g (goal.at.loop-e-preserved g c).After-take)
+      (ap is_eq (sym (g.met.K.Key.says _ _ c.cmp.result c.cmp.ensures)) ∙ sym c.is_eq.ensures ∙ c.if-not-is_eq.false) (taken g (goal.at.loop-e-preserved g c).After-take)
       (c.pointing.ensures ∙ ap (point c.args.target c.in-Some.e.carried.high) (get_or_default c.loop-e.rows c.in-Some.e.carried.row _ no_row (inside g (goal.at.loop-e-preserved g c).After-take))),
 )

@@ -15,17 +15,17 @@ use Rattle.sweep.proofs.Sided.{reads_own, reads_on, ready_from, kids_as, start_a
 use Rattle.sweep.proofs.Stages.{Stage, Mid, none_done, stage_first, stage_within, stage_no_row, stage_full, stage_put, mid_within, mid_done, mid_next}
 use Rattle.sweep.proofs.running.open_rows.Given as given
 use Rattle.sweep.proofs.running.open_rows.Goals as goal
-use Rattle.sweep.proofs.running.open_rows.Goals.{After-key-of-key, In-ok-put-arcs}
+use Rattle.sweep.proofs.running.open_rows.Goals.{After-key_of-key, In-ok-put_arcs}
 
-pub start-pair-requires : goal.start-pair-requires
-start-pair-requires g c = record {
+pub start_pair-requires : goal.start_pair-requires
+start_pair-requires g c = record {
   left = c.requires.left;
   right = c.requires.right;
-  reads-left = reads_own _ _ 0 _ (c.reader-of.ensures 0);
-  reads-right = reads_own _ _ 0 _ (c.reader-of-2.ensures 0);
+  reads-left = reads_own _ _ 0 _ (c.reader_of.ensures 0);
+  reads-right = reads_own _ _ 0 _ (c.reader_of-2.ensures 0);
 }
 
-module _ (g : given.Over) (c : goal.After-key-of-key g) where
+module _ (g : given.Over) (c : goal.After-key_of-key g) where
   -- the run, and what is asked of its sides
   abbrev the-run : Run
   the-run = run_of (g.L.Source.facts c.args.left.now) (g.L.Source.top c.args.left.now) (g.L.Source.listed c.args.left.now) (g.R.Source.top c.args.right.now) (g.R.Source.listed c.args.right.now) c.args.task
@@ -34,68 +34,68 @@ module _ (g : given.Over) (c : goal.After-key-of-key g) where
   sides = sides_of _ _ _ _ _ _ c.args.task c.requires.left c.requires.right c.requires.facts
 
   -- the first key is the root pair's
-  first-pair : c.key-of-key.result.pair ≡ start the-run
+  first-pair : c.key_of-key.result.pair ≡ start the-run
   first-pair =
-      ap (λ (k : PairKey). k.pair) c.key-of-key.ensures ∙
-      start_as _ _ _ _ _ c.args.task c.reader-of.result.fixed c.reader-of-2.result.fixed (c.reader-of.ensures 0).fact (c.reader-of-2.ensures 0).fact c.start-pair.result (c.start-pair.ensures c.args.task.operator)
+      ap (λ (k : PairKey). k.pair) c.key_of-key.ensures ∙
+      start_as _ _ _ _ _ c.args.task c.reader_of.result.fixed c.reader_of-2.result.fixed (c.reader_of.ensures 0).fact (c.reader_of-2.ensures 0).fact c.start_pair.result (c.start_pair.ensures c.args.task.operator)
 
-  first_key : c.key-of-key.result ≡ key_of (g.L.Source.facts c.args.left.now) c.key-of-key.result.pair
-  first_key = c.key-of-key.ensures ∙ ap₂ key_of c.n-n.ensures (sym (ap (λ (k : PairKey). k.pair) c.key-of-key.ensures))
+  first_key : c.key_of-key.result ≡ key_of (g.L.Source.facts c.args.left.now) c.key_of-key.result.pair
+  first_key = c.key_of-key.ensures ∙ ap₂ key_of c.n-n.ensures (sym (ap (λ (k : PairKey). k.pair) c.key_of-key.ensures))
 
-pub returns-then-not-is-open : goal.returns-then-not-is-open
-returns-then-not-is-open g c =
-    let d = (goal.at.returns-then-not-is-open g c).After-key-of-key in
+pub returns-then-not-is_open : goal.returns-then-not-is_open
+returns-then-not-is_open g c =
+    let d = (goal.at.returns-then-not-is_open g c).After-key_of-key in
     let op = c.args.task.operator in
     record {
       kept = c.requires.kept;
       room = refl;
-      swept = none_done (the-run g d) (sides g d) (length c.args.rows.now) (g.Q.Queue.room c.args.queue.now) c.args.rows.now refl c.terminal-of.result
-          (c.terminal-of.ensures ∙ ap terminal (c.verdict-of.ensures ∙ ap (verdict op) (first-pair g d)))
-          (ap (opens op) (sym (first-pair g d)) ∙ sym c.is-open.ensures.opens ∙ c.if-not-is-open.true);
+      swept = none_done (the-run g d) (sides g d) (length c.args.rows.now) (g.Q.Queue.room c.args.queue.now) c.args.rows.now refl c.terminal_of.result
+          (c.terminal_of.ensures ∙ ap terminal (c.verdict_of.ensures ∙ ap (verdict op) (first-pair g d)))
+          (ap (opens op) (sym (first-pair g d)) ∙ sym c.is_open.ensures.opens ∙ c.if-not-is_open.true);
       empty = c.requires.empty;
     }
 
 pub loop-row-init : goal.loop-row-init
 loop-row-init g c =
-    let d = (goal.at.loop-row-init g c).After-key-of-key in
+    let d = (goal.at.loop-row-init g c).After-key_of-key in
     let op = c.args.task.operator in (
       c.requires.kept,
       refl,
       first_key g d,
-      c.reader-of.ensures _,
-      c.reader-of-2.ensures _,
+      c.reader_of.ensures _,
+      c.reader_of-2.ensures _,
       subst⁻¹ (λ (p : Pair). Stage (the-run g d) (length c.args.rows.now) (g.Q.Queue.room c.args.queue.now) c.args.rows.now 0 p c.args.rows.now (g.Q.Queue.waiting c.args.queue.now)) (first-pair g d)
           (stage_first (the-run g d) (sides g d) (length c.args.rows.now) (g.Q.Queue.room c.args.queue.now) c.args.rows.now refl
-          (ap (opens op) (sym (first-pair g d)) ∙ sym c.is-open.ensures.opens ∙ c.if-not-is-open.false) (g.Q.Queue.waiting c.args.queue.now) c.requires.empty),
+          (ap (opens op) (sym (first-pair g d)) ∙ sym c.is_open.ensures.opens ∙ c.if-not-is_open.false) (g.Q.Queue.waiting c.args.queue.now) c.requires.empty),
     )
 
-pub children-of-children-requires : goal.children-of-children-requires
-children-of-children-requires g c =
-    let d = (goal.at.children-of-children-requires g c).After-key-of-key in
+pub children_of-children-requires : goal.children_of-children-requires
+children_of-children-requires g c =
+    let d = (goal.at.children_of-children-requires g c).After-key_of-key in
     let v = c.loop-row.invariant in
     let w = stage_within (the-run g d) (sides g d) _ _ _ refl c.loop-row.row c.loop-row.key.pair c.loop-row.rows _ v.5 in
     record {
-      left = ready_from _ _ _ c.loop-row.readers.left c.moved-on.result c.loop-row.key.level c.loop-row.key.pair.left c.requires.left w.0 c.moved-on.ensures.reads c.moved-on.ensures.starts;
-      right = ready_from _ _ _ c.loop-row.readers.right c.moved-on-in-loop-row.result c.loop-row.key.level c.loop-row.key.pair.right c.requires.right w.1 c.moved-on-in-loop-row.ensures.reads c.moved-on-in-loop-row.ensures.starts;
+      left = ready_from _ _ _ c.loop-row.readers.left c.moved_on.result c.loop-row.key.level c.loop-row.key.pair.left c.requires.left w.0 c.moved_on.ensures.reads c.moved_on.ensures.starts;
+      right = ready_from _ _ _ c.loop-row.readers.right c.moved_on-in-loop-row.result c.loop-row.key.level c.loop-row.key.pair.right c.requires.right w.1 c.moved_on-in-loop-row.ensures.reads c.moved_on-in-loop-row.ensures.starts;
       level = ap (λ (k : PairKey). k.level) v.2;
     }
 
-pub returns-in-err-put-arcs : goal.returns-in-err-put-arcs
-returns-in-err-put-arcs g c =
-    let d = (goal.at.returns-in-err-put-arcs g c).After-key-of-key in
+pub returns-in_err-put_arcs : goal.returns-in_err-put_arcs
+returns-in_err-put_arcs g c =
+    let d = (goal.at.returns-in_err-put_arcs g c).After-key_of-key in
     let v = c.loop-row.invariant in
-    let a = c.in-err-put-arcs.ensures in
-    let low = c.children-of-children.result.low in
-    let high = c.children-of-children.result.high in
+    let a = c.in_err-put_arcs.ensures in
+    let low = c.children_of-children.result.low in
+    let high = c.children_of-children.result.high in
     let room = g.Q.Queue.room c.args.queue.now in
     let space = length c.args.rows.now in
     let ws = g.Q.Queue.waiting c.loop-row.queue in
     let rows = set c.loop-row.rows c.loop-row.row c.drafted.result in
-    let kids = kids_as _ _ _ _ _ c.args.task c.moved-on.result.fixed c.moved-on-in-loop-row.result.fixed (c.moved-on.ensures.reads.fact ∙ v.3.fact) (c.moved-on-in-loop-row.ensures.reads.fact ∙ v.4.fact)
-    c.loop-row.key.pair low high c.children-of-children.ensures in
+    let kids = kids_as _ _ _ _ _ c.args.task c.moved_on.result.fixed c.moved_on-in-loop-row.result.fixed (c.moved_on.ensures.reads.fact ∙ v.3.fact) (c.moved_on-in-loop-row.ensures.reads.fact ∙ v.4.fact)
+    c.loop-row.key.pair low high c.children_of-children.ensures in
     let p = err_from_is_err_and c.from-residual.result c.from-residual.ensures.1 in
-    let refused = subst₂ (λ m k. Refused-arc m k c.loop-row.row low high ws c.in-err-put-arcs.field-0.0) v.1 c.n-n.ensures a.put in
-    let ends = stage_full (the-run g d) (sides g d) space room c.args.rows.now refl c.loop-row.row c.loop-row.key.pair c.loop-row.rows ws v.5 (omega (arith, v.5.size)) low high kids c.drafted.result c.in-err-put-arcs.field-0.0 refused in
+    let refused = subst₂ (λ m k. Refused-arc m k c.loop-row.row low high ws c.in_err-put_arcs.field-0.0) v.1 c.n-n.ensures a.put in
+    let ends = stage_full (the-run g d) (sides g d) space room c.args.rows.now refl c.loop-row.row c.loop-row.key.pair c.loop-row.rows ws v.5 (omega (arith, v.5.size)) low high kids c.drafted.result c.in_err-put_arcs.field-0.0 refused in
     record {
       kept = a.kept;
       room = a.room ∙ v.1;
@@ -103,7 +103,7 @@ returns-in-err-put-arcs g c =
       empty = IfOk-from_err c.from-residual.result _ (ap is_err p.1);
     }
 
-module _ (g : given.Over) (c : goal.In-ok-put-arcs g) where
+module _ (g : given.Over) (c : goal.In-ok-put_arcs g) where
   abbrev run-here : Run
   run-here = run_of (g.L.Source.facts c.args.left.now) (g.L.Source.top c.args.left.now) (g.L.Source.listed c.args.left.now) (g.R.Source.top c.args.right.now) (g.R.Source.listed c.args.right.now) c.args.task
 
@@ -111,41 +111,41 @@ module _ (g : given.Over) (c : goal.In-ok-put-arcs g) where
   sides-here = sides_of _ _ _ _ _ _ c.args.task c.requires.left c.requires.right c.requires.facts
 
   -- the row is opened, and its arcs are put
-  mid : Mid run-here (length c.args.rows.now) (g.Q.Queue.room c.args.queue.now) c.args.rows.now (c.loop-row.row + 1) (level run-here c.loop-row.key.pair) (set c.loop-row.rows c.loop-row.row c.drafted.result) (g.Q.Queue.waiting c.put-arcs.new.queue)
+  mid : Mid run-here (length c.args.rows.now) (g.Q.Queue.room c.args.queue.now) c.args.rows.now (c.loop-row.row + 1) (level run-here c.loop-row.key.pair) (set c.loop-row.rows c.loop-row.row c.drafted.result) (g.Q.Queue.waiting c.put_arcs.new.queue)
   mid =
       let v = c.loop-row.invariant in
-      let low = c.children-of-children.result.low in
-      let high = c.children-of-children.result.high in
+      let low = c.children_of-children.result.low in
+      let high = c.children_of-children.result.high in
       let ws = g.Q.Queue.waiting c.loop-row.queue in
-      let vs = g.Q.Queue.waiting c.put-arcs.new.queue in
-      let kids = kids_as _ _ _ _ _ c.args.task c.moved-on.result.fixed c.moved-on-in-loop-row.result.fixed (c.moved-on.ensures.reads.fact ∙ v.3.fact) (c.moved-on-in-loop-row.ensures.reads.fact ∙ v.4.fact)
-      c.loop-row.key.pair low high c.children-of-children.ensures in
-      let put = subst₂ (λ m k. (length vs ≤ m) × IsPermutation (put_for k c.loop-row.row true high ++ (put_for k c.loop-row.row false low ++ ws)) vs) v.1 c.n-n.ensures c.in-ok-put-arcs.ensures.put in
+      let vs = g.Q.Queue.waiting c.put_arcs.new.queue in
+      let kids = kids_as _ _ _ _ _ c.args.task c.moved_on.result.fixed c.moved_on-in-loop-row.result.fixed (c.moved_on.ensures.reads.fact ∙ v.3.fact) (c.moved_on-in-loop-row.ensures.reads.fact ∙ v.4.fact)
+      c.loop-row.key.pair low high c.children_of-children.ensures in
+      let put = subst₂ (λ m k. (length vs ≤ m) × IsPermutation (put_for k c.loop-row.row true high ++ (put_for k c.loop-row.row false low ++ ws)) vs) v.1 c.n-n.ensures c.in_ok-put_arcs.ensures.put in
       stage_put run-here sides-here (length c.args.rows.now) (g.Q.Queue.room c.args.queue.now) c.args.rows.now refl c.loop-row.row c.loop-row.key.pair c.loop-row.rows ws v.5 (omega (arith, v.5.size)) low high kids
       c.drafted.result (c.drafted.ensures.level ∙ ap (λ (k : PairKey). k.level) v.2) c.drafted.ensures.low c.drafted.ensures.high vs put.0 put.1
 
-pub next-pair-requires : goal.next-pair-requires
-next-pair-requires g c =
-    let d = (goal.at.next-pair-requires g c).In-ok-put-arcs in
+pub next_pair-requires : goal.next_pair-requires
+next_pair-requires g c =
+    let d = (goal.at.next_pair-requires g c).In-ok-put_arcs in
     record {
-      kept = c.in-ok-put-arcs.ensures.kept;
+      kept = c.in_ok-put_arcs.ensures.kept;
       within = mid_within (run-here g d) (sides-here g d) (length c.args.rows.now) (g.Q.Queue.room c.args.queue.now) c.args.rows.now refl (c.loop-row.row + 1) (level (run-here g d) c.loop-row.key.pair)
-          (set c.loop-row.rows c.loop-row.row c.drafted.result) (g.Q.Queue.waiting c.put-arcs.new.queue) (mid g d);
+          (set c.loop-row.rows c.loop-row.row c.drafted.result) (g.Q.Queue.waiting c.put_arcs.new.queue) (mid g d);
     }
 
 pub returns-in-None : goal.returns-in-None
 returns-in-None g c =
-    let d = (goal.at.returns-in-None g c).In-ok-put-arcs in
-    let e = (goal.at.returns-in-None g c).After-key-of-key in
+    let d = (goal.at.returns-in-None g c).In-ok-put_arcs in
+    let e = (goal.at.returns-in-None g c).After-key_of-key in
     let a = c.in-None.ensures in
     let op = c.args.task.operator in
     record {
       kept = a.kept;
-      room = a.room ∙ c.in-ok-put-arcs.ensures.room ∙ c.loop-row.invariant.1;
+      room = a.room ∙ c.in_ok-put_arcs.ensures.room ∙ c.loop-row.invariant.1;
       swept = mid_done (run-here g d) (sides-here g d) (length c.args.rows.now) (g.Q.Queue.room c.args.queue.now) c.args.rows.now refl (c.loop-row.row + 1) (level (run-here g d) c.loop-row.key.pair)
-          (set c.loop-row.rows c.loop-row.row c.drafted.result) (g.Q.Queue.waiting c.put-arcs.new.queue) (mid g d)
-          (g.Q.Queue.waiting c.next-pair.new.queue) c.next-pair.new.rows (Node c.key-of-key.result.level 0)
-          (ap (opens op) (sym (first-pair g e)) ∙ sym c.is-open.ensures.opens ∙ c.if-not-is-open.false)
+          (set c.loop-row.rows c.loop-row.row c.drafted.result) (g.Q.Queue.waiting c.put_arcs.new.queue) (mid g d)
+          (g.Q.Queue.waiting c.next_pair.new.queue) c.next_pair.new.rows (Node c.key_of-key.result.level 0)
+          (ap (opens op) (sym (first-pair g e)) ∙ sym c.is_open.ensures.opens ∙ c.if-not-is_open.false)
           (ap (λ l. Node l 0) (ap (λ (k : PairKey). k.level) (first_key g e) ∙ ap (pair_level (g.L.Source.facts c.args.left.now)) (first-pair g e)))
           a.next;
       empty = a.next.1;
@@ -153,27 +153,27 @@ returns-in-None g c =
 
 pub loop-row-preserved : goal.loop-row-preserved
 loop-row-preserved g c =
-    let d = (goal.at.loop-row-preserved g c).In-ok-put-arcs in
+    let d = (goal.at.loop-row-preserved g c).In-ok-put_arcs in
     let v = c.loop-row.invariant in
     let a = c.in-Some.ensures in
     let n = mid_next (run-here g d) (sides-here g d) (length c.args.rows.now) (g.Q.Queue.room c.args.queue.now) c.args.rows.now refl (c.loop-row.row + 1) (level (run-here g d) c.loop-row.key.pair)
-    (set c.loop-row.rows c.loop-row.row c.drafted.result) (g.Q.Queue.waiting c.put-arcs.new.queue) (mid g d)
-    (g.Q.Queue.waiting c.next-pair.new.queue) c.next-pair.new.rows c.in-Some.pair a.next in
-    let key = c.key-of-key-in-Some.ensures in
-    let same : c.key-of-key-in-Some.result.pair ≡ c.in-Some.pair = ap (λ (k : PairKey). k.pair) key in
-    let lev : c.key-of-key-in-Some.result.level ≡ pair_level (g.L.Source.facts c.args.left.now) c.in-Some.pair = ap (λ (k : PairKey). k.level) key ∙ ap (λ m. pair_level m c.in-Some.pair) c.n-n.ensures in
-    let up : c.loop-row.key.level ≤ c.key-of-key-in-Some.result.level = omega (arith, lev, n.1, ap (λ (k : PairKey). k.level) v.2) in (
+    (set c.loop-row.rows c.loop-row.row c.drafted.result) (g.Q.Queue.waiting c.put_arcs.new.queue) (mid g d)
+    (g.Q.Queue.waiting c.next_pair.new.queue) c.next_pair.new.rows c.in-Some.pair a.next in
+    let key = c.key_of-key-in-Some.ensures in
+    let same : c.key_of-key-in-Some.result.pair ≡ c.in-Some.pair = ap (λ (k : PairKey). k.pair) key in
+    let lev : c.key_of-key-in-Some.result.level ≡ pair_level (g.L.Source.facts c.args.left.now) c.in-Some.pair = ap (λ (k : PairKey). k.level) key ∙ ap (λ m. pair_level m c.in-Some.pair) c.n-n.ensures in
+    let up : c.loop-row.key.level ≤ c.key_of-key-in-Some.result.level = omega (arith, lev, n.1, ap (λ (k : PairKey). k.level) v.2) in (
       a.kept,
-      a.room ∙ c.in-ok-put-arcs.ensures.room ∙ v.1,
+      a.room ∙ c.in_ok-put_arcs.ensures.room ∙ v.1,
       key ∙ ap₂ key_of c.n-n.ensures (sym same),
-      reads_on _ _ _ _ c.loop-row.readers.left c.moved-on.result v.3 c.moved-on.ensures.reads up,
-      reads_on _ _ _ _ c.loop-row.readers.right c.moved-on-in-loop-row.result v.4 c.moved-on-in-loop-row.ensures.reads up,
-      subst⁻¹ (λ (p : Pair). Stage (run-here g d) (length c.args.rows.now) (g.Q.Queue.room c.args.queue.now) c.args.rows.now (c.loop-row.row + 1) p c.next-pair.new.rows (g.Q.Queue.waiting c.next-pair.new.queue)) same n.0,
+      reads_on _ _ _ _ c.loop-row.readers.left c.moved_on.result v.3 c.moved_on.ensures.reads up,
+      reads_on _ _ _ _ c.loop-row.readers.right c.moved_on-in-loop-row.result v.4 c.moved_on-in-loop-row.ensures.reads up,
+      subst⁻¹ (λ (p : Pair). Stage (run-here g d) (length c.args.rows.now) (g.Q.Queue.room c.args.queue.now) c.args.rows.now (c.loop-row.row + 1) p c.next_pair.new.rows (g.Q.Queue.waiting c.next_pair.new.queue)) same n.0,
     )
 
 pub returns : goal.returns
 returns g c =
-    let d = (goal.at.returns g c).After-key-of-key in
+    let d = (goal.at.returns g c).After-key_of-key in
     let v = c.loop-row.invariant in
     record {
       kept = v.0;

@@ -7,18 +7,18 @@ use Rattle.sweep.proofs.running.start_pair.Goals as goal
 
 pub settled-requires : goal.settled-requires
 settled-requires g c = record {
-  few = c.requires.reads-left.few;
+  few = c.requires.reads_left.few;
   listing = c.requires.left;
   within = subst⁻¹ (Within (g.L.Source.listed c.args.left.now)) c.root.ensures (root_within _ _ c.requires.left.rooted);
-  fixes = c.requires.reads-left.fixes;
+  fixes = c.requires.reads_left.fixes;
 }
 
 pub settled-requires-2 : goal.settled-requires-2
 settled-requires-2 g c = record {
-  few = c.requires.reads-right.few;
+  few = c.requires.reads_right.few;
   listing = c.requires.right;
   within = subst⁻¹ (Within (g.R.Source.listed c.args.right.now)) c.root-2.ensures (root_within _ _ c.requires.right.rooted);
-  fixes = c.requires.reads-right.fixes;
+  fixes = c.requires.reads_right.fixes;
 }
 
 pub returns : goal.returns

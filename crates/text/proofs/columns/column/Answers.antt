@@ -18,8 +18,8 @@ returns-else-i-width c = record {
 
 pub returns-then-bytes-i-ne32 : goal.returns-then-bytes-i-ne32
 returns-then-bytes-i-ne32 c = record {
-  value = c.digits-of.ensures.value ∙ ap (digits 0) (between_is c.args.bytes.now c.loop-i.i c.args.width) ∙ numeral_digits c.args.bytes.now c.args.width c.loop-i.i (omega arith) (omega arith) (omega arith) (omega arith) ∙ c.loop-i.invariant;
-  below = below_wider c.digits-of.result (length (take (c.args.width - c.loop-i.i) (drop c.loop-i.i c.args.bytes.now))) c.args.width (simp (length-take, length-drop) (omega arith)) c.digits-of.ensures.below;
+  value = c.digits_of.ensures.value ∙ ap (digits 0) (between_is c.args.bytes.now c.loop-i.i c.args.width) ∙ numeral_digits c.args.bytes.now c.args.width c.loop-i.i (omega arith) (omega arith) (omega arith) (omega arith) ∙ c.loop-i.invariant;
+  below = below_wider c.digits_of.result (length (take (c.args.width - c.loop-i.i) (drop c.loop-i.i c.args.bytes.now))) c.args.width (simp (length-take, length-drop) (omega arith)) c.digits_of.ensures.below;
 }
 
 pub loop-i-preserved : goal.loop-i-preserved

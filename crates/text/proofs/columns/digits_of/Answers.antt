@@ -5,11 +5,11 @@ use Rattle.text.proofs.columns.digits_of.Goals as goal
 pub returns-then-d-lt48 : goal.returns-then-d-lt48
 returns-then-d-lt48 c = record { value = digits_no c.args.text.now c.loop-b.b-index c.loop-b.value (omega arith) (⊎_elim inl (λ h. inr h.1) c.then-d-lt48.either) ∙ c.loop-b.invariant.0; below = pow_pos_10 (length c.args.text.now) }
 
-pub overflow-mul-value : goal.overflow-mul-value
-overflow-mul-value c = omega (arith, pow_8 c.loop-b.b-index (omega arith))
+pub overflow_mul-value : goal.overflow_mul-value
+overflow_mul-value c = omega (arith, pow_8 c.loop-b.b-index (omega arith))
 
-pub overflow-add-value : goal.overflow-add-value
-overflow-add-value c = omega (arith, pow_8 c.loop-b.b-index (omega arith))
+pub overflow_add-value : goal.overflow_add-value
+overflow_add-value c = omega (arith, pow_8 c.loop-b.b-index (omega arith))
 
 pub loop-b-preserved : goal.loop-b-preserved
 loop-b-preserved c = (

@@ -3,4 +3,4 @@ use Rattle.text.proofs.Lines.{body_lines}
 use Rattle.text.proofs.opening.body_fault.Goals as goal
 
 pub returns : goal.returns
-returns c = c.lines-fault.ensures ∙ sym (body_lines c.args.bytes.now c.value-at-count.result c.value-at-count.ensures.value (omega arith))
+returns c = c.lines_fault.ensures ∙ sym (body_lines c.args.bytes.now c.value_at-count.result c.value_at-count.ensures.value (omega arith))

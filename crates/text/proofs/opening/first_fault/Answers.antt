@@ -12,6 +12,6 @@ either (Some f) P h = tt
 
 pub returns : goal.returns
 returns c = record {
-  fault = c.header-fault.ensures ∙ sym (text_long c.args.bytes.now (omega arith));
-  long = either c.header-fault.result _ (omega arith);
+  fault = c.header_fault.ensures ∙ sym (text_long c.args.bytes.now (omega arith));
+  long = either c.header_fault.result _ (omega arith);
 }

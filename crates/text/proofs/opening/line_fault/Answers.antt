@@ -2,18 +2,18 @@ use Rattle.std.proofs.Common.{◌≡◌, ◌+◌, ◌-◌, Some, sym, ap, ◌∙
 use Rattle.text.proofs.Lines.{line_some, line_none, feed_yes, feed_no}
 use Rattle.text.proofs.opening.line_fault.Goals as goal
 
-pub returns-in-default : goal.returns-in-default
-returns-in-default c =
-    line_none c.args.bytes.now c.loop-k.at c.loop-k.k (c.args.columns - (c.loop-k.k + 1)) (c.args.columns - c.loop-k.k) c.width-of-width.result (omega arith) c.width-of-width.ensures.width
-    c.in-default.ensures.value
+pub returns-in_default : goal.returns-in_default
+returns-in_default c =
+    line_none c.args.bytes.now c.loop-k.at c.loop-k.k (c.args.columns - (c.loop-k.k + 1)) (c.args.columns - c.loop-k.k) c.width_of-width.result (omega arith) c.width_of-width.ensures.width
+    c.in_default.ensures.value
     ∙ c.loop-k.invariant.0
 
 pub loop-k-preserved : goal.loop-k-preserved
 loop-k-preserved c = (
-  line_some c.args.bytes.now c.loop-k.at c.loop-k.k (c.args.columns - (c.loop-k.k + 1)) (c.args.columns - c.loop-k.k) c.width-of-width.result (omega arith) c.width-of-width.ensures.width
+  line_some c.args.bytes.now c.loop-k.at c.loop-k.k (c.args.columns - (c.loop-k.k + 1)) (c.args.columns - c.loop-k.k) c.width_of-width.result (omega arith) c.width_of-width.ensures.width
       c.in-Some.field-0 c.in-Some.ensures.value
       ∙ c.loop-k.invariant.0,
-  omega (arith, c.width-of-width.ensures.next),
+  omega (arith, c.width_of-width.ensures.next),
 )
 
 pub returns-then-bytes-at-eq10 : goal.returns-then-bytes-at-eq10

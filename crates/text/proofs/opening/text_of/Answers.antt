@@ -10,7 +10,7 @@ returns c =
       faultless = c.requires.faultless;
       well = w;
       bytes = refl;
-      facts = c.value-at-n.ensures.value;
+      facts = c.value_at-n.ensures.value;
       root = cc;
-      records = whole_lines c.args.bytes.now c.value-at-n.result w.size c.value-at-n.ensures.value;
+      records = whole_lines c.args.bytes.now c.value_at-n.result w.size c.value_at-n.ensures.value;
     }

@@ -6,5 +6,5 @@ use Rattle.text_writing.proofs.reporting.report_text.Goals as goal
 pub returns : goal.returns
 returns c = record {
   size = refl;
-  text = c.put-report.ensures ∙ ap (λ k. report_line c.args.report ++ drop (0 + k) c.args.out.now) (length_report c.args.report.number c.args.report.place c.args.report.detail);
+  text = c.put_report.ensures ∙ ap (λ k. report_line c.args.report ++ drop (0 + k) c.args.out.now) (length_report c.args.report.number c.args.report.place c.args.report.detail);
 }

@@ -4,5 +4,5 @@ use Rattle.text_writing.proofs.writing.put_columns.Goals as goal
 
 pub returns : goal.returns
 returns c =
-    puts_columns c.args.at c.args.n c.args.level c.args.number c.args.low c.args.high c.args.out.now c.put-pair.new.out c.put-target.new.out c.put-target-2.new.out c.put-feed.new.out
-    (omega arith) (omega arith) (omega arith) c.put-pair.ensures c.put-target.ensures c.put-target-2.ensures c.put-feed.ensures
+    puts_columns c.args.at c.args.n c.args.level c.args.number c.args.low c.args.high c.args.out.now c.put_pair.new.out c.put_target.new.out c.put_target-2.new.out c.put_feed.new.out
+    (omega arith) (omega arith) (omega arith) c.put_pair.ensures c.put_target.ensures c.put_target-2.ensures c.put_feed.ensures
