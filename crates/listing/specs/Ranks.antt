@@ -1,13 +1,14 @@
 -- The order of targets as an answer of a comparison, and its laws, for keys and sorts. Assumes nothing.
-use Rattle.std.specs.Prelude.{◌≡◌, ℕ, ◌<◌, ◌⊎◌, refl}
+use Rattle.std.specs.Prelude.{◌≡◌, ℕ, ◌<◌, ◌==◌, ◌⊎◌, refl}
 use Rattle.std.specs.declared.cmp.Ordering.TheVariants.{Less, Equal, Greater}
 use Rattle.std.specs.declared.cmp.Ordering.{Ordering}
 use Rattle.std.proofs.Common.{sym, ap₂, inl, inr, arith}
-use Rattle.std.specs.Cmp.{IsTotalOrder, ranks, strict}
-use Rattle.std.specs.Ordering.{ordering_then, MatchOrdering, nat_cmp}
+use Rattle.std.specs.Cmp.{IsTotalOrder, ranks, strict, both_tied, unsigned_ties}
+use Rattle.std.specs.Ordering.{ordering_then, MatchOrdering, nat_cmp, eq_by_cmp}
 use Rattle.listing.specs.declared.Target.{Target}
 use Rattle.listing.specs.declared.Target.TheVariants.{Node, False, True}
 use Rattle.listing.specs.Listing.{Before}
+use Rattle.listing.specs.Tests.{same_target}
 
 -- how two targets compare: nodes by level, then number; then False; then True
 abbrev pub rank_target : Target → Target → Ordering
@@ -75,3 +76,15 @@ ranks_target True True = refl
 -- so the order of targets is total and transitive
 abbrev pub target_total : IsTotalOrder rank_target
 target_total = strict Before before_irr before_trans rank_target ranks_target
+
+-- and two of them tie where the test finds them the same
+pub target_ties : (t u : Target) → same_target t u ≡ eq_by_cmp rank_target t u
+target_ties (Node a i) (Node b j) = both_tied (a == b) (i == j) (nat_cmp a b) (nat_cmp i j) (unsigned_ties a b) (unsigned_ties i j)
+target_ties (Node a i) False = refl
+target_ties (Node a i) True = refl
+target_ties False (Node b j) = refl
+target_ties False False = refl
+target_ties False True = refl
+target_ties True (Node b j) = refl
+target_ties True False = refl
+target_ties True True = refl

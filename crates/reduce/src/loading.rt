@@ -31,10 +31,10 @@ pub struct Loaded {
 // Makes the rows, which hold the source's listing with places for numbers, normal.
 fn reduce_placed<S: Source>(source: &S, rows: &mut [Row]) -> Reduced
     requires few { length rows.old < 2 ^ 32 }
-    requires listing { Listing (facts source.now) (top source.now) (listed source.now) }
-    requires placed { given 0 rows.old ≡ place_records (listed source.now) 0 (listed source.now) }
+    requires listing { Listing (S.facts source.now) (S.top source.now) (S.listed source.now) }
+    requires placed { given 0 rows.old ≡ place_records (S.listed source.now) 0 (S.listed source.now) }
     ensures count { result.count ≤ length rows.new }
-    ensures normal { Normalizes (facts source.now) (top source.now) (listed source.now) result.root (map entry_of (take result.count rows.new)) }
+    ensures normal { Normalizes (S.facts source.now) (S.top source.now) (S.listed source.now) result.root (map entry_of (take result.count rows.new)) }
 {
     if rows.is_empty() {
         return Reduced {
@@ -69,9 +69,9 @@ fn load_rows<S: Source>(
     rows: &mut [Row],
     records: &mut [Record],
 ) -> Result<Loaded, LoadFault>
-    requires few { length (listed source.now) < 2 ^ 32 }
-    requires each { length rows.old ≡ length (listed source.now) }
-    ensures { Works (facts source.now) (top source.now) (listed source.now) records.old records.new result }
+    requires few { length (S.listed source.now) < 2 ^ 32 }
+    requires each { length rows.old ≡ length (S.listed source.now) }
+    ensures { Works (S.facts source.now) (S.top source.now) (S.listed source.now) records.old records.new result }
 {
     check_rules(source, rows)?;
     let reduced = reduce_placed(source, rows);
@@ -84,10 +84,10 @@ fn load_clearing<S: Source>(
     rows: &mut [Row],
     records: &mut [Record],
 ) -> Result<Loaded, LoadFault>
-    requires few { length (listed source.now) < 2 ^ 32 }
-    requires each { length rows.old ≡ length (listed source.now) }
-    ensures works { Works (facts source.now) (top source.now) (listed source.now) records.old records.new result }
-    ensures rows { rows.new ≡ replicate (length (listed source.now)) zero_row }
+    requires few { length (S.listed source.now) < 2 ^ 32 }
+    requires each { length rows.old ≡ length (S.listed source.now) }
+    ensures works { Works (S.facts source.now) (S.top source.now) (S.listed source.now) records.old records.new result }
+    ensures rows { rows.new ≡ replicate (length (S.listed source.now)) zero_row }
 {
     let loaded = load_rows(source, rows, records);
     rows.fill(ZERO);
@@ -101,10 +101,10 @@ fn load_admitted<S: Source>(
     rows: &mut [Row],
     records: &mut [Record],
 ) -> Result<Loaded, LoadFault>
-    requires facts { facts source.now ≡ n }
-    requires few { length (listed source.now) ≤ 65535 }
-    requires rows { length (listed source.now) ≤ length rows.old }
-    ensures { Loads n (facts source.now) (top source.now) (listed source.now) (record { rows = rows.entry.now; rows_after = rows.exit.now; records = records.old; records_after = records.new }) result }
+    requires facts { S.facts source.now ≡ n }
+    requires few { length (S.listed source.now) ≤ 65535 }
+    requires rows { length (S.listed source.now) ≤ length rows.old }
+    ensures { Loads n (S.facts source.now) (S.top source.now) (S.listed source.now) (record { rows = rows.entry.now; rows_after = rows.exit.now; records = records.old; records_after = records.new }) result }
 {
     let count = source.count();
     load_clearing(source, &mut rows[0..count], records)
@@ -120,7 +120,7 @@ pub fn load<S: Source>(
     rows: &mut [Row],
     records: &mut [Record],
 ) -> Result<Loaded, LoadFault>
-    ensures { Loads n (facts source.now) (top source.now) (listed source.now) (record { rows = rows.entry.now; rows_after = rows.exit.now; records = records.old; records_after = records.new }) result }
+    ensures { Loads n (S.facts source.now) (S.top source.now) (S.listed source.now) (record { rows = rows.entry.now; rows_after = rows.exit.now; records = records.old; records_after = records.new }) result }
 {
     if source.n() != n {
         return Err(LoadFault::Facts);

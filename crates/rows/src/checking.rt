@@ -16,8 +16,8 @@ use source::Source;
 
 // The first break of the rules of root, levels and numbers.
 fn order_break<S: Source>(source: &S) -> Option<Break>
-    requires { length (listed source.now) < 2 ^ 32 }
-    ensures { MatchOption result (Rooted (top source.now) (listed source.now) × Levelled (facts source.now) (listed source.now) × Numbered (listed source.now)) (λ b. Broken (facts source.now) (top source.now) (listed source.now) b.rule b.place) }
+    requires { length (S.listed source.now) < 2 ^ 32 }
+    ensures { MatchOption result (Rooted (S.top source.now) (S.listed source.now) × Levelled (S.facts source.now) (S.listed source.now) × Numbered (S.listed source.now)) (λ b. Broken (S.facts source.now) (S.top source.now) (S.listed source.now) b.rule b.place) }
 {
     if !is_rooted(source) {
         return Some(Break {
@@ -43,12 +43,12 @@ fn order_break<S: Source>(source: &S) -> Option<Break>
 // The first place whose record is no target of an earlier one, by the marks of the rows; nothing else of them is
 // changed.
 fn unaimed_place<S: Source>(source: &S, rows: &mut [Row]) -> Option<usize>
-    requires numbered { Numbered (listed source.now) }
-    requires targeted { Targeted (listed source.now) }
-    requires filled { rows.old ≡ map (placed_row (listed source.now)) (listed source.now) }
-    ensures breaks { MatchOption result (Aimed (listed source.now)) (First (Unaimed (listed source.now))) }
-    ensures below { IfSome result (λ p. p < length (listed source.now)) }
-    ensures rows { given 0 rows.new ≡ place_records (listed source.now) 0 (listed source.now) }
+    requires numbered { Numbered (S.listed source.now) }
+    requires targeted { Targeted (S.listed source.now) }
+    requires filled { rows.old ≡ map (placed_row (S.listed source.now)) (S.listed source.now) }
+    ensures breaks { MatchOption result (Aimed (S.listed source.now)) (First (Unaimed (S.listed source.now))) }
+    ensures below { IfSome result (λ p. p < length (S.listed source.now)) }
+    ensures rows { given 0 rows.new ≡ place_records (S.listed source.now) 0 (S.listed source.now) }
 {
     aim_break(rows)
 }
@@ -58,9 +58,9 @@ fn unaimed_place<S: Source>(source: &S, rows: &mut [Row]) -> Option<usize>
 /// load clears them. It is public only for the crate above: it asks that the records are few enough for their places to
 /// be numbers, and that there is one row for each, which that crate proves. Costs O(N log N).
 pub fn check_rules<S: Source>(source: &S, rows: &mut [Row]) -> Result<(), Break>
-    requires few { length (listed source.now) < 2 ^ 32 }
-    requires each { length rows.old ≡ length (listed source.now) }
-    ensures { MatchResult result (λ _. Listing (facts source.now) (top source.now) (listed source.now) × (given 0 rows.new ≡ place_records (listed source.now) 0 (listed source.now))) (λ b. Broken (facts source.now) (top source.now) (listed source.now) b.rule b.place) }
+    requires few { length (S.listed source.now) < 2 ^ 32 }
+    requires each { length rows.old ≡ length (S.listed source.now) }
+    ensures { MatchResult result (λ _. Listing (S.facts source.now) (S.top source.now) (S.listed source.now) × (given 0 rows.new ≡ place_records (S.listed source.now) 0 (S.listed source.now))) (λ b. Broken (S.facts source.now) (S.top source.now) (S.listed source.now) b.rule b.place) }
 {
     if let Some(broken) = order_break(source) {
         return Err(broken);

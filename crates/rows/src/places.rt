@@ -13,8 +13,8 @@ use source::Source;
 
 // The place of the record of a node. The records are in order, so half of what is left is left out each time.
 fn find<S: Source>(source: &S, level: u16, number: u32) -> Option<usize>
-    requires { Numbered (listed source.now) }
-    ensures { MatchOption result (Within (listed source.now) (Node level number) → ⊥) (AtPlace (listed source.now) (Node level number)) }
+    requires { Numbered (S.listed source.now) }
+    ensures { MatchOption result (Within (S.listed source.now) (Node level number) → ⊥) (AtPlace (S.listed source.now) (Node level number)) }
 {
     let mut from = 0;
     let mut to = source.count();
@@ -38,9 +38,9 @@ fn find<S: Source>(source: &S, level: u16, number: u32) -> Option<usize>
 // A target with its place for its number, absent where it is neither a terminal nor a node of the listing above
 // the level.
 fn placed<S: Source>(source: &S, level: u16, t: Target) -> Option<Target>
-    requires numbered { Numbered (listed source.now) }
-    requires few { length (listed source.now) < 2 ^ 32 }
-    ensures { MatchOption result (KeptTarget (listed source.now) level t → ⊥) (λ u. KeptTarget (listed source.now) level t × (u ≡ placing (listed source.now) t)) }
+    requires numbered { Numbered (S.listed source.now) }
+    requires few { length (S.listed source.now) < 2 ^ 32 }
+    ensures { MatchOption result (KeptTarget (S.listed source.now) level t → ⊥) (λ u. KeptTarget (S.listed source.now) level t × (u ≡ placing (S.listed source.now) t)) }
 {
     let Target::Node { level: own, number } = t else {
         return Some(t);
@@ -59,9 +59,9 @@ fn placed<S: Source>(source: &S, level: u16, t: Target) -> Option<Target>
 
 // The row of a record, absent where a target breaks the fourth rule.
 fn row_of<S: Source>(source: &S, r: Record) -> Option<Row>
-    requires numbered { Numbered (listed source.now) }
-    requires few { length (listed source.now) < 2 ^ 32 }
-    ensures { MatchOption result (KeptTargets (listed source.now) r → ⊥) (λ row. KeptTargets (listed source.now) r × (row ≡ placed_row (listed source.now) r)) }
+    requires numbered { Numbered (S.listed source.now) }
+    requires few { length (S.listed source.now) < 2 ^ 32 }
+    ensures { MatchOption result (KeptTargets (S.listed source.now) r → ⊥) (λ row. KeptTargets (S.listed source.now) r × (row ≡ placed_row (S.listed source.now) r)) }
 {
     let Some(low) = placed(source, r.level, r.low) else {
         return None;
@@ -80,11 +80,11 @@ fn row_of<S: Source>(source: &S, r: Record) -> Option<Row>
 // Fills the rows, one a record, with records whose arcs name places; the first place whose record breaks the
 // fourth rule ends it.
 pub fn target_break<S: Source>(source: &S, rows: &mut [Row]) -> Option<usize>
-    requires numbered { Numbered (listed source.now) }
-    requires few { length (listed source.now) < 2 ^ 32 }
-    requires each { length rows.old ≡ length (listed source.now) }
-    ensures breaks { MatchOption result (Targeted (listed source.now) × (rows.new ≡ map (placed_row (listed source.now)) (listed source.now))) (First (Mistargeted (listed source.now))) }
-    ensures below { IfSome result (λ p. p < length (listed source.now)) }
+    requires numbered { Numbered (S.listed source.now) }
+    requires few { length (S.listed source.now) < 2 ^ 32 }
+    requires each { length rows.old ≡ length (S.listed source.now) }
+    ensures breaks { MatchOption result (Targeted (S.listed source.now) × (rows.new ≡ map (placed_row (S.listed source.now)) (S.listed source.now))) (First (Mistargeted (S.listed source.now))) }
+    ensures below { IfSome result (λ p. p < length (S.listed source.now)) }
 {
     for place in 0..rows.len() {
         let Some(r) = source.record(place) else {

@@ -2,11 +2,8 @@ ghost use Rattle.std.specs.Prelude.{◌≡◌, ◌&&◌, IsSomeAnd, Some, refl};
 ghost use Rattle.listing.specs.Tests.{same_target};
 ghost use Rattle.listing.specs.Ranks.{rank_target};
 ghost use Rattle.rows.specs.Rows.{entry_of, like};
-ghost use Rattle.rows.specs.Ranks.{rank_row};
-ghost use Rattle.std.specs.Cmp.Rules.{comparing};
-ghost use Rattle.std.proofs.Common.{rules};
-ghost use Rattle.std.specs.Cmp as Keys;
-ghost use Rattle.std.specs.Cmp.{partial_order_from_agreeing_total};
+ghost use Rattle.rows.specs.Ranks.{rank_row, row_total, row_ties, row_equiv};
+ghost use Rattle.std.specs.Cmp.{partial_equiv_from_equiv, partial_order_from_agreeing_total};
 
 use listing::{Record, Target};
 use std::cmp::Ordering;
@@ -67,7 +64,7 @@ fn rank_target(a: Target, b: Target) -> Ordering
 impl PartialEq for Row {
     ghost eq = { λ p r. like p r };
 
-    ghost laws = { Keys.partial_equiv_from_equiv (Prim.search (comparing, rules)) };
+    ghost laws = { partial_equiv_from_equiv row_equiv };
 
     fn eq(&self, other: &Row) -> bool {
         same_target(self.low, other.low) && same_target(self.high, other.high)
@@ -75,13 +72,13 @@ impl PartialEq for Row {
 }
 
 impl Eq for Row {
-    ghost laws = { Prim.search (comparing, rules) };
+    ghost laws = { row_equiv };
 }
 
 impl PartialOrd for Row {
     ghost partial_cmp = { λ p r. Some (rank_row p r) };
 
-    ghost laws = { partial_order_from_agreeing_total (λ p r. rank_row p r) (Prim.search (comparing, rules)) (λ _ _. refl) (Prim.search (comparing, rules)) };
+    ghost laws = { partial_order_from_agreeing_total rank_row row_total (λ _ _. refl) row_ties };
 
     fn partial_cmp(&self, other: &Row) -> Option<Ordering> {
         Some(self.cmp(other))
@@ -91,11 +88,11 @@ impl PartialOrd for Row {
 impl Ord for Row {
     ghost cmp = { λ p r. rank_row p r };
 
-    ghost total = { Prim.search (comparing, rules) };
+    ghost total = { row_total };
 
-    ghost matches_partial_cmp = { Prim.search (comparing, rules) };
+    ghost matches_partial_cmp = { λ _ _. refl };
 
-    ghost matches_eq = { Prim.search (comparing, rules) };
+    ghost matches_eq = { row_ties };
 
     fn cmp(&self, other: &Row) -> Ordering {
         match rank_target(self.low, other.low) {

@@ -20,7 +20,7 @@ fn is_terminal(t: Target) -> bool
 
 // Whether the root keeps the first rule.
 pub fn is_rooted<S: Source>(source: &S) -> bool
-    ensures { Decides result (Rooted (top source.now) (listed source.now)) }
+    ensures { Decides result (Rooted (S.top source.now) (S.listed source.now)) }
 {
     match source.record(0) {
         None => is_terminal(source.root()),
@@ -30,8 +30,8 @@ pub fn is_rooted<S: Source>(source: &S) -> bool
 
 // The first place whose record has a level that is not below n.
 pub fn level_break<S: Source>(source: &S) -> Option<usize>
-    ensures breaks { MatchOption result (Levelled (facts source.now) (listed source.now)) (First (TooHigh (facts source.now) (listed source.now))) }
-    ensures below { IfSome result (λ p. p < length (listed source.now)) }
+    ensures breaks { MatchOption result (Levelled (S.facts source.now) (S.listed source.now)) (First (TooHigh (S.facts source.now) (S.listed source.now))) }
+    ensures below { IfSome result (λ p. p < length (S.listed source.now)) }
 {
     let n = source.n();
     for place in 0..source.count() {
@@ -57,7 +57,7 @@ fn is_next(p: Record, r: Record) -> bool
 
 // Whether the number of the record at a place is another than its predecessor asks.
 fn is_misnumbered<S: Source>(source: &S, place: usize) -> bool
-    ensures { Decides result (Misnumbered (listed source.now) place) }
+    ensures { Decides result (Misnumbered (S.listed source.now) place) }
 {
     let Some(r) = source.record(place) else {
         return false;
@@ -73,8 +73,8 @@ fn is_misnumbered<S: Source>(source: &S, place: usize) -> bool
 
 // The first place whose record has another number than its predecessor asks.
 pub fn number_break<S: Source>(source: &S) -> Option<usize>
-    ensures breaks { MatchOption result (Numbered (listed source.now)) (First (Misnumbered (listed source.now))) }
-    ensures below { IfSome result (λ p. p < length (listed source.now)) }
+    ensures breaks { MatchOption result (Numbered (S.listed source.now)) (First (Misnumbered (S.listed source.now))) }
+    ensures below { IfSome result (λ p. p < length (S.listed source.now)) }
 {
     for place in 0..source.count() {
         if is_misnumbered(source, place) {

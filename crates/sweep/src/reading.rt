@@ -20,12 +20,12 @@ pub struct Reader {
 
 // Where the records of a level start, looking from a place on that lies behind no such record.
 fn level_start<S: Source>(source: &S, from: usize, level: u16) -> usize
-    requires numbered { Numbered (listed source.now) }
-    requires passed { Passed (listed source.now) level from }
-    requires within { from ≤ length (listed source.now) }
-    ensures starts { Starts (listed source.now) level result }
-    ensures within { result ≤ length (listed source.now) }
-    ensures few { length (listed source.now) < 2 ^ 64 }
+    requires numbered { Numbered (S.listed source.now) }
+    requires passed { Passed (S.listed source.now) level from }
+    requires within { from ≤ length (S.listed source.now) }
+    ensures starts { Starts (S.listed source.now) level result }
+    ensures within { result ≤ length (S.listed source.now) }
+    ensures few { length (S.listed source.now) < 2 ^ 64 }
 {
     let count = source.count();
     for place in from..count {
@@ -41,11 +41,11 @@ fn level_start<S: Source>(source: &S, from: usize, level: u16) -> usize
 
 // Where a node leads at a bit; its level's records start at `start`.
 fn lead<S: Source>(source: &S, start: usize, high: bool, target: Target) -> Target
-    requires few { length (listed source.now) < 2 ^ 64 }
-    requires listing { Listing (facts source.now) (top source.now) (listed source.now) }
-    requires within { Within (listed source.now) target }
-    requires starts { StartsFor (listed source.now) target start }
-    ensures { result ≡ leads (listed source.now) high target }
+    requires few { length (S.listed source.now) < 2 ^ 64 }
+    requires listing { Listing (S.facts source.now) (S.top source.now) (S.listed source.now) }
+    requires within { Within (S.listed source.now) target }
+    requires starts { StartsFor (S.listed source.now) target start }
+    ensures { result ≡ leads (S.listed source.now) high target }
 {
     match target {
         Target::Node { number, .. } => match source.record(start + number as usize) {
@@ -70,11 +70,11 @@ fn is_on(at: u16, target: Target) -> bool
 
 // A node on the fixed level is replaced by its fixed child.
 pub fn settled<S: Source>(source: &S, reader: Reader, target: Target) -> Target
-    requires few { length (listed source.now) < 2 ^ 64 }
-    requires listing { Listing (facts source.now) (top source.now) (listed source.now) }
-    requires within { Within (listed source.now) target }
-    requires fixes { Fixes (listed source.now) reader.fixed reader.fixed_start }
-    ensures { result ≡ fixing (listed source.now) reader.fixed target }
+    requires few { length (S.listed source.now) < 2 ^ 64 }
+    requires listing { Listing (S.facts source.now) (S.top source.now) (S.listed source.now) }
+    requires within { Within (S.listed source.now) target }
+    requires fixes { Fixes (S.listed source.now) reader.fixed reader.fixed_start }
+    ensures { result ≡ fixing (S.listed source.now) reader.fixed target }
 {
     match reader.fixed {
         Some(fact) => {
@@ -96,12 +96,12 @@ pub fn moved<S: Source>(
     high: bool,
     target: Target,
 ) -> Target
-    requires few { length (listed source.now) < 2 ^ 64 }
-    requires listing { Listing (facts source.now) (top source.now) (listed source.now) }
-    requires within { Within (listed source.now) target }
-    requires fixes { Fixes (listed source.now) reader.fixed reader.fixed_start }
-    requires starts { Starts (listed source.now) level reader.start }
-    ensures { result ≡ move (side_of (top source.now) (listed source.now) reader.fixed) level high target }
+    requires few { length (S.listed source.now) < 2 ^ 64 }
+    requires listing { Listing (S.facts source.now) (S.top source.now) (S.listed source.now) }
+    requires within { Within (S.listed source.now) target }
+    requires fixes { Fixes (S.listed source.now) reader.fixed reader.fixed_start }
+    requires starts { Starts (S.listed source.now) level reader.start }
+    ensures { result ≡ move (side_of (S.top source.now) (S.listed source.now) reader.fixed) level high target }
 {
     if is_on(level, target) {
         settled(source, reader, lead(source, reader.start, high, target))
@@ -112,8 +112,8 @@ pub fn moved<S: Source>(
 
 /// A reader at a side's first record.
 pub fn reader_of<S: Source>(source: &S, fixed: Option<Fixed>) -> Reader
-    requires { Numbered (listed source.now) }
-    ensures { (l : ℕ) → Reads (listed source.now) fixed l result }
+    requires { Numbered (S.listed source.now) }
+    ensures { (l : ℕ) → Reads (S.listed source.now) fixed l result }
 {
     let level = match fixed {
         Some(fact) => fact.level,
@@ -128,10 +128,10 @@ pub fn reader_of<S: Source>(source: &S, fixed: Option<Fixed>) -> Reader
 
 /// The reader, moved on to a level.
 pub fn moved_on<S: Source>(source: &S, reader: Reader, level: u16) -> Reader
-    requires numbered { Numbered (listed source.now) }
-    requires reads { Reads (listed source.now) reader.fixed level reader }
-    ensures reads { Reads (listed source.now) reader.fixed level result }
-    ensures starts { Starts (listed source.now) level result.start }
+    requires numbered { Numbered (S.listed source.now) }
+    requires reads { Reads (S.listed source.now) reader.fixed level reader }
+    ensures reads { Reads (S.listed source.now) reader.fixed level result }
+    ensures starts { Starts (S.listed source.now) level result.start }
 {
     Reader {
         start: level_start(source, reader.start, level),

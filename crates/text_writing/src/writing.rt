@@ -100,7 +100,7 @@ fn put_heading(out: &mut [u8], n: u16, count: usize, root: Target)
 // Writes the header line of a source's text.
 fn put_header<S: Source>(source: &S, out: &mut [u8])
     requires { 21 ≤ length out.old }
-    ensures { Puts 0 (header (facts source.now) (length (listed source.now)) (top source.now)) out.old out.new }
+    ensures { Puts 0 (header (S.facts source.now) (length (S.listed source.now)) (S.top source.now)) out.old out.new }
 {
     put_heading(out, source.n(), source.count(), source.root());
 }
@@ -134,8 +134,8 @@ fn put_line(out: &mut [u8], at: usize, n: u16, r: Record)
 
 // Writes a line for each record, behind the header.
 fn put_lines<S: Source>(source: &S, out: &mut [u8])
-    requires { 21 + 31 * length (listed source.now) ≤ length out.old }
-    ensures { Puts 21 (flat_map (line (facts source.now)) (listed source.now)) out.old out.new }
+    requires { 21 + 31 * length (S.listed source.now) ≤ length out.old }
+    ensures { Puts 21 (flat_map (line (S.facts source.now)) (S.listed source.now)) out.old out.new }
 {
     let n = source.n();
     for place in 0..source.count() {
@@ -148,10 +148,10 @@ fn put_lines<S: Source>(source: &S, out: &mut [u8])
 
 // Writes the whole text, `len` bytes long, and carries the theorem that it tells the listing again.
 fn put_text<S: Source>(source: &S, out: &mut [u8], len: usize)
-    requires size { len ≡ 21 + 31 * length (listed source.now) }
+    requires size { len ≡ 21 + 31 * length (S.listed source.now) }
     requires within { len ≤ length out.old }
-    ensures wrote { Wrote (facts source.now) (top source.now) (listed source.now) out.old out.new len }
-    ensures again { OpensAgain (facts source.now) (top source.now) (listed source.now) (take len out.new) }
+    ensures wrote { Wrote (S.facts source.now) (S.top source.now) (S.listed source.now) out.old out.new len }
+    ensures again { OpensAgain (S.facts source.now) (S.top source.now) (S.listed source.now) (take len out.new) }
 {
     put_header(source, out);
     put_lines(source, out);
@@ -172,8 +172,8 @@ fn text_len(count: usize, room: usize) -> Option<usize>
 /// source tells, with at most 9,999 facts and 999,999 records, opening the text tells it again. One pass over the
 /// records and the bytes.
 pub fn write<S: Source>(source: &S, buffer: &mut [u8]) -> Result<usize, WriteFault>
-    ensures wrote { MatchResult result (λ len. Wrote (facts source.now) (top source.now) (listed source.now) buffer.old buffer.new len) (λ _. (length buffer.old < 21 + 31 * length (listed source.now)) × (buffer.new ≡ buffer.old)) }
-    ensures again { IfOk result (λ len. OpensAgain (facts source.now) (top source.now) (listed source.now) (take len buffer.new)) }
+    ensures wrote { MatchResult result (λ len. Wrote (S.facts source.now) (S.top source.now) (S.listed source.now) buffer.old buffer.new len) (λ _. (length buffer.old < 21 + 31 * length (S.listed source.now)) × (buffer.new ≡ buffer.old)) }
+    ensures again { IfOk result (λ len. OpensAgain (S.facts source.now) (S.top source.now) (S.listed source.now) (take len buffer.new)) }
 {
     match text_len(source.count(), buffer.len()) {
         None => Err(WriteFault::Short),

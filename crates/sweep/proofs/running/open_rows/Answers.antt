@@ -93,14 +93,14 @@ returns-in_err-put_arcs g c =
     let rows = set c.loop-row.rows c.loop-row.row c.drafted.result in
     let kids = kids_as _ _ _ _ _ c.args.task c.moved_on.result.fixed c.moved_on-in-loop-row.result.fixed (c.moved_on.ensures.reads.fact ∙ v.3.fact) (c.moved_on-in-loop-row.ensures.reads.fact ∙ v.4.fact)
     c.loop-row.key.pair low high c.children_of-children.ensures in
-    let p = err_from_is_err_and c.from-residual.result c.from-residual.ensures.1 in
+    let p = err_from_is_err_and c.from_residual.result c.from_residual.ensures.1 in
     let refused = subst₂ (λ m k. Refused-arc m k c.loop-row.row low high ws c.in_err-put_arcs.field-0.0) v.1 c.n-n.ensures a.put in
     let ends = stage_full (the-run g d) (sides g d) space room c.args.rows.now refl c.loop-row.row c.loop-row.key.pair c.loop-row.rows ws v.5 (omega (arith, v.5.size)) low high kids c.drafted.result c.in_err-put_arcs.field-0.0 refused in
     record {
       kept = a.kept;
       room = a.room ∙ v.1;
       swept = subst⁻¹ (λ res. Swept (the-run g d) space room c.args.rows.now rows res) p.1 (subst⁻¹ (λ f. Swept (the-run g d) space room c.args.rows.now rows (Err f)) p.2 ends);
-      empty = IfOk-from_err c.from-residual.result _ (ap is_err p.1);
+      empty = IfOk-from_err c.from_residual.result _ (ap is_err p.1);
     }
 
 module _ (g : given.Over) (c : goal.In-ok-put_arcs g) where
