@@ -1,13 +1,13 @@
 -- Keys are ordered as the pairs, and targets by their numbers.
 use Rattle.std.proofs.Common.{◌≡◌, ℕ, ◌+◌, ◌*◌, ◌^◌, ◌<◌, ◌⊎◌, Ordering, Less, Equal, Greater, sym, refl, ap, ◌∙◌, subst, ap₂, inl, inr, ⊎_elim, arith}
 use mathlib.Core.Path.{subst⁻¹}
-use Rattle.std.specs.Cmp.{ranks}
+use Rattle.std.specs.Cmp.{one_rank, ranks}
 use Rattle.std.specs.Ordering.{ordering_then, MatchOrdering, nat_cmp}
 use Rattle.std.proofs.lemmas.Bool.{cases_order}
 use Rattle.listing.specs.declared.Target.{Target}
 use Rattle.listing.specs.declared.Target.TheVariants.{Node, False, True}
 use Rattle.listing.specs.Listing.{Before}
-use Rattle.listing.specs.Ranks.{rank_target, ranks_target, target_total}
+use Rattle.listing.specs.Ranks.{before_irr, before_trans, rank_target, ranks_target}
 use Rattle.pairs.specs.declared.Pair.{Pair}
 use Rattle.pairs.specs.declared.keys.PairKey.{PairKey}
 use Rattle.pairs.specs.Pairs.{Run, level, Ahead}
@@ -72,5 +72,6 @@ alike True True x y h g l = refl
 -- so targets compare as their numbers
 pub weighed : (t u : Target) (x y : ℕ) → Weighs t x → Weighs u y → nat_cmp x y ≡ rank_target t u
 weighed t u x y h g =
-    target_total.says t u (nat_cmp x y)
+    one_rank Before before_irr before_trans t u (nat_cmp x y) (rank_target t u)
     (ranked_map _ _ _ (Before t u) (t ≡ u) (Before u t) (nat_cmp x y) (lighter t u x y h g) (alike t u x y h g) (lighter u t y x g h) (ranks x y))
+    (ranks_target t u)

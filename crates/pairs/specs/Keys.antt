@@ -1,7 +1,7 @@
 -- The order of pair keys: by level, then left target, then right target. Assumes nothing.
 use Rattle.std.specs.Prelude.{◌≡◌, ℕ, ◌+◌, ◌*◌, ◌^◌, ◌<◌}
 use Rattle.std.specs.declared.cmp.Ordering.{Ordering}
-use Rattle.std.specs.Cmp.{nat_cmp_total, pairs}
+use Rattle.std.specs.Cmp.{IsTotalOrder, nat_cmp_total, then_total, on_total}
 use Rattle.std.specs.Ordering.{ordering_then, nat_cmp}
 use Rattle.listing.specs.declared.Target.{Target}
 use Rattle.listing.specs.declared.Target.TheVariants.{Node, False, True}
@@ -20,13 +20,11 @@ abbrev pub rank_key : PairKey → PairKey → Ordering
 rank_key x y = ordering_then (nat_cmp x.level y.level) (ordering_then (rank_target x.pair.left y.pair.left) (rank_target x.pair.right y.pair.right))
 
 -- that order is total and transitive
+pub key_total : IsTotalOrder rank_key
+key_total = then_total (on_total (λ (x : PairKey). x.level) nat_cmp_total) (then_total (on_total (λ (x : PairKey). x.pair.left) target_total) (on_total (λ (x : PairKey). x.pair.right) target_total))
+
 pub key_lawful : Lawful rank_key
-key_lawful =
-    record {
-      flip = λ x y. (pairs nat_cmp_total (pairs target_total target_total)).flip (x.level, (x.pair.left, x.pair.right)) (y.level, (y.pair.left, y.pair.right));
-      trans = λ x y z. (pairs nat_cmp_total (pairs target_total target_total)).trans (x.level, (x.pair.left, x.pair.right)) (y.level, (y.pair.left, y.pair.right)) (z.level, (z.pair.left, z.pair.right));
-      alike = λ x y z. (pairs nat_cmp_total (pairs target_total target_total)).alike (x.level, (x.pair.left, x.pair.right)) (y.level, (y.pair.left, y.pair.right)) (z.level, (z.pair.left, z.pair.right));
-    }
+key_lawful = record { flip = key_total.antisymm; trans = key_total.trans; alike = key_total.congr }
 
 -- w is the target's number: those of nodes are by level and number, that of False is larger, that of True largest
 abbrev pub Weighs : Target → ℕ → Type 0

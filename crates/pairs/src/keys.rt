@@ -4,11 +4,9 @@
 ghost use Rattle.std.specs.Prelude.{◌≡◌, IsSomeAnd, Some, refl};
 ghost use Rattle.std.specs.Ordering.{is_eq};
 ghost use Rattle.listing.specs.Ranks.{rank_target};
-ghost use Rattle.pairs.specs.Keys.{rank_key, key_lawful, Weighs};
-ghost use Rattle.std.specs.Cmp.Rules.{comparing};
+ghost use Rattle.pairs.specs.Keys.{rank_key, key_total, key_lawful, Weighs};
+ghost use Rattle.std.specs.Cmp.{eq_by_cmp_equiv, partial_equiv_from_equiv, partial_order_from_agreeing_total};
 ghost use Rattle.std.proofs.Common.{rules};
-ghost use Rattle.std.specs.Cmp as Keys;
-ghost use Rattle.std.specs.Cmp.{partial_order_from_agreeing_total};
 
 use crate::Pair;
 use listing::Target;
@@ -43,7 +41,7 @@ fn rank_target(a: Target, b: Target) -> Ordering
 impl PartialEq for PairKey {
     ghost eq = { λ x y. is_eq (rank_key x y) };
 
-    ghost laws = { Keys.partial_equiv_from_equiv (Prim.search (comparing, rules)) };
+    ghost laws = { partial_equiv_from_equiv (eq_by_cmp_equiv key_total) };
 
     /// Whether the two tie, that is, are the same.
     fn eq(&self, other: &PairKey) -> bool {
@@ -52,13 +50,13 @@ impl PartialEq for PairKey {
 }
 
 impl Eq for PairKey {
-    ghost laws = { Prim.search (comparing, rules) };
+    ghost laws = { eq_by_cmp_equiv key_total };
 }
 
 impl PartialOrd for PairKey {
     ghost partial_cmp = { λ x y. Some (rank_key x y) };
 
-    ghost laws = { partial_order_from_agreeing_total (λ x y. rank_key x y) (Prim.search (comparing, rules)) (λ _ _. refl) (Prim.search (comparing, rules)) };
+    ghost laws = { partial_order_from_agreeing_total rank_key key_total (λ _ _. refl) (λ _ _. refl) };
 
     fn partial_cmp(&self, other: &PairKey) -> Option<Ordering> {
         Some(self.cmp(other))
@@ -68,11 +66,11 @@ impl PartialOrd for PairKey {
 impl Ord for PairKey {
     ghost cmp = { λ x y. rank_key x y };
 
-    ghost total = { Prim.search (comparing, rules) };
+    ghost total = { key_total };
 
-    ghost matches_partial_cmp = { Prim.search (comparing, rules) };
+    ghost matches_partial_cmp = { λ _ _. refl };
 
-    ghost matches_eq = { Prim.search (comparing, rules) };
+    ghost matches_eq = { λ _ _. refl };
 
     /// By level, then left target, then right target.
     fn cmp(&self, other: &PairKey) -> Ordering {

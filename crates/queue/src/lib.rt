@@ -6,14 +6,13 @@
 
 ghost use Rattle.std.specs.Prelude.{◌≡◌, ℕ, ◌-◌, ◌^◌, ◌≤◌, min, List, [], length, IsSomeAnd, Some, Option, OnErr, ◌==◌, refl};
 ghost use Rattle.std.specs.declared.cmp.Ordering.{Ordering};
-ghost use Rattle.std.specs.Cmp as std-keys;
 ghost use Rattle.std.specs.Ordering.{is_eq, is_gt, nat_cmp};
 ghost use Rattle.queue.specs.Rank.{Lawful, unsigned_lawful};
 ghost use Rattle.queue.specs.Waiting.{element, Least, Put, Taken};
 ghost use Rattle.queue.specs.declared.Element.{Element};
 ghost use Rattle.std.specs.Cmp.Rules.{comparing};
 ghost use Rattle.std.proofs.Common.{rules};
-ghost use Rattle.std.specs.Cmp.{partial_order_from_agreeing_total};
+ghost use Rattle.std.specs.Cmp.{partial_equiv_from_equiv, partial_order_from_agreeing_total};
 
 use std::cmp::Ordering;
 
@@ -45,7 +44,7 @@ pub trait Key: Ord + Copy {
 impl<K: Key, V: Copy> PartialEq for Element<K, V> {
     ghost eq = { λ a b. is_eq (K.Key.rank a.key b.key) };
 
-    ghost laws = { std-keys.partial_equiv_from_equiv (Prim.search (comparing, rules)) };
+    ghost laws = { partial_equiv_from_equiv (Prim.search (comparing, rules)) };
 
     /// Whether the two tie.
     fn eq(&self, other: &Element<K, V>) -> bool {

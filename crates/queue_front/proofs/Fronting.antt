@@ -1,7 +1,7 @@
 -- What a slot in front of a queue keeps when one is put. Assumes nothing.
 use Rattle.std.proofs.Common.{◌≡◌, ℕ, ◌+◌, ◌<◌, ◌≤◌, Bool, true, false, cond, List, ◌∷◌, length, IfErr, Some, None, Ok, Err, Option, Result, Ordering, sym, refl, subst, arith}
 use Rattle.std.specs.Ordering.{is_gt}
-use Rattle.std.specs.List.{AllByRecursion as All}
+use Rattle.std.specs.List.{AllByRecursion}
 use Rattle.std.specs.List.Sorted.{IsPermutation}
 use Rattle.std.proofs.ByRecursion.{All-weaker, all_shuffled}
 use Rattle.std.proofs.lemmas.List.Sorted.{IsPermutation-refl, IsPermutation-cons, IsPermutation-trans, length_permutation}
@@ -16,14 +16,14 @@ use Rattle.queue.proofs.Ranks.{upto_self, upto_turned, upto_trans, upto_at}
 
 module _ {K V : Type 0} {rank : K → K → Ordering} (law : Lawful rank) where
   -- what does not come after x comes after none of those that x does not come after
-  pub all_upto : (e x : Element K V) (xs : List (Element K V)) → UpTo rank e.key x.key → All (λ y. UpTo rank x.key y.key) xs → All (λ y. UpTo rank e.key y.key) xs
+  pub all_upto : (e x : Element K V) (xs : List (Element K V)) → UpTo rank e.key x.key → AllByRecursion (λ y. UpTo rank x.key y.key) xs → AllByRecursion (λ y. UpTo rank e.key y.key) xs
   all_upto e x xs h all =
       All-weaker (λ (y : Element K V). UpTo rank x.key y.key) (λ (y : Element K V). UpTo rank e.key y.key) (λ y k. upto_trans law e.key x.key y.key h k) xs all
 
   -- what comes after none of those that wait, nor after e, comes after none where e joined
-  all_put : (x e : Element K V) (xs ys : List (Element K V)) (room : ℕ) (r : Result (Unit {0}) (Refused K V)) → All (λ y. UpTo rank x.key y.key) xs → UpTo rank x.key e.key → Put xs room e ys r → All (λ y. UpTo rank x.key y.key) ys
+  all_put : (x e : Element K V) (xs ys : List (Element K V)) (room : ℕ) (r : Result (Unit {0}) (Refused K V)) → AllByRecursion (λ y. UpTo rank x.key y.key) xs → UpTo rank x.key e.key → Put xs room e ys r → AllByRecursion (λ y. UpTo rank x.key y.key) ys
   all_put x e xs ys room (Ok u) all h p = all_shuffled (λ (y : Element K V). UpTo rank x.key y.key) (e ∷ xs) ys p.1 (h, all)
-  all_put x e xs ys room (Err f) all h p = subst (λ l. All (λ (y : Element K V). UpTo rank x.key y.key) l) (sym p.2) all
+  all_put x e xs ys room (Err f) all h p = subst (λ l. AllByRecursion (λ (y : Element K V). UpTo rank x.key y.key) l) (sym p.2) all
 
   -- of x and e, one goes to the front and the other behind
   module _ (x e front' behind : Element K V) (at_front : front' ≡ cond (is_gt (rank x.key e.key)) e x) (at_back : behind ≡ cond (is_gt (rank x.key e.key)) x e) (xs : List (Element K V)) where
@@ -52,7 +52,7 @@ module _ {K V : Type 0} {rank : K → K → Ordering} (law : Lawful rank) where
 
     -- the slot held x, and what does not stay in front was put below
     module _ (slot : Option (Element K V)) (is : slot ≡ Some x) (ys : List (Element K V)) (s : IsPermutation (behind ∷ xs) ys) where
-      pub two_kept : Fronts rank slot xs → All (λ y. UpTo rank front'.key y.key) ys
+      pub two_kept : Fronts rank slot xs → AllByRecursion (λ y. UpTo rank front'.key y.key) ys
       two_kept f =
           all_shuffled (λ (y : Element K V). UpTo rank front'.key y.key) (behind ∷ xs) ys s (two.lesser, all_upto front' x xs two.first (subst (λ o. Fronts rank o xs) is f))
 
@@ -62,7 +62,7 @@ module _ {K V : Type 0} {rank : K → K → Ordering} (law : Lawful rank) where
           (omega arith, IsPermutation-trans (e ∷ x ∷ xs) (front' ∷ behind ∷ xs) (front' ∷ ys) two.same (IsPermutation-cons front' (behind ∷ xs) ys s))
 
   -- the slot is empty, and e does not come after the next below: it goes into the slot
-  pub slot_kept : (x e : Element K V) (xs : List (Element K V)) → Least rank xs (Some x) → UpTo rank e.key x.key → All (λ y. UpTo rank e.key y.key) xs
+  pub slot_kept : (x e : Element K V) (xs : List (Element K V)) → Least rank xs (Some x) → UpTo rank e.key x.key → AllByRecursion (λ y. UpTo rank e.key y.key) xs
   slot_kept x e xs l h = all_upto e x xs h l.1
 
   pub slot_put : (slot : Option (Element K V)) (e : Element K V) (xs : List (Element K V)) (room : ℕ) → slot ≡ None → length xs ≤ room → (length (front slot xs) < room + 1) × IsPermutation (e ∷ front slot xs) (e ∷ xs)

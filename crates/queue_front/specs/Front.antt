@@ -2,7 +2,7 @@
 use Rattle.std.specs.Prelude.{ℕ, ◌+◌, ◌≤◌, List, ◌∷◌, length, Some, None, Option}
 use Rattle.std.specs.declared.cmp.Ordering.{Ordering}
 use Rattle.std.proofs.Common.{arith}
-use Rattle.std.specs.List.{AllByRecursion as All}
+use Rattle.std.specs.List.{AllByRecursion}
 use Rattle.queue.specs.Rank.{UpTo}
 use Rattle.queue.specs.declared.Element.{Element}
 
@@ -19,7 +19,7 @@ foremost (Some e) o = Some e
 -- what the slot holds comes after nothing below
 abbrev pub Fronts : {K V : Type 0} → (K → K → Ordering) → Option (Element K V) → List (Element K V) → Type 0
 Fronts rank None xs = Unit {0}
-Fronts rank (Some e) xs = All (λ y. UpTo rank e.key y.key) xs
+Fronts rank (Some e) xs = AllByRecursion (λ y. UpTo rank e.key y.key) xs
 
 -- a slot in front holds one at most
 pub front_fits : {X : Type 0} (slot : Option X) (xs : List X) (room : ℕ) → length xs ≤ room → length (front slot xs) ≤ room + 1

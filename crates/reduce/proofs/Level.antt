@@ -3,7 +3,7 @@ use Rattle.std.proofs.Common.{◌≡◌, ℕ, zero, suc, ◌+◌, ◌-◌, ◌<�
 use mathlib.Core.Path.{subst⁻¹}
 use lib.Seq.{map-set_same, take-set-le}
 use Rattle.std.specs.List.Sorted.{IsPermutation}
-use Rattle.std.specs.List.{ContainsAt as Has, AllByRecursion as All}
+use Rattle.std.specs.List.{ContainsAt, AllByRecursion}
 use Rattle.std.proofs.lemmas.List.{get_or-append_right, drop-map}
 use Rattle.std.proofs.ByRecursion.{all-has, has_shuffled}
 use Rattle.std.proofs.lemmas.List.Sorted.{IsPermutation-sym, length_permutation}
@@ -25,16 +25,16 @@ use Rattle.reduce.proofs.Extend.{Block, Climbs, block_level, extend}
 use Rattle.reduce.proofs.Rowed.{On, Marks, same_target_eq, same_target_ne, kept_block, kept_climbs, kept_of, one_number, kept_from, marked_back, marked_forth}
 
 -- membership by place, and by cases
-on_has : (x : Row) (xs : List Row) → On x xs → Has xs x
+on_has : (x : Row) (xs : List Row) → On x xs → ContainsAt xs x
 on_has x [] m = absurd m
 on_has x (y ∷ xs) (inl e) = (0, omega arith, λ d. sym e)
 on_has x (y ∷ xs) (inr m) = let w = on_has x xs m in (suc w.0, omega (arith, w.1), w.2)
 
-all_on : (xs ys : List Row) → ((x : Row) → On x xs → On x ys) → All (λ x. On x ys) xs
+all_on : (xs ys : List Row) → ((x : Row) → On x xs → On x ys) → AllByRecursion (λ x. On x ys) xs
 all_on [] ys f = tt
 all_on (x ∷ xs) ys f = (f x (inl refl), all_on xs ys (λ y m. f y (inr m)))
 
-has_on : (x : Row) (xs : List Row) → Has xs x → On x xs
+has_on : (x : Row) (xs : List Row) → ContainsAt xs x → On x xs
 has_on x xs h = all-has (λ y. On y xs) xs x (all_on xs xs (λ y m. m)) h
 
 shuffled_on : (xs ys : List Row) (x : Row) → IsPermutation xs ys → On x xs → On x ys

@@ -129,18 +129,18 @@ module _ (R xs : List Row) (a b k : ℕ) (kb : k < b) (kx : k < length R) (h : W
   like_at : bare (get_or R k no_row) ≡ bare (get_or xs k no_row)
   like_at = sym (bare_at xs R k h.bares)
 
-  pub writing_inside : (get_or xs k no_row).own_val < length R
+  pub writing_inside : (get_or xs k no_row).own < length R
   writing_inside = subst (λ n. n < length R) (ap (λ (r : Row). r.own) like_at) (subst (λ (v : List Row). OwnInside (length R) v) there h.inside).0
 
-  pub writing_again : (v : Row) → v ≡ imaged (get_or xs (get_or xs k no_row).own_val no_row) (outcome (get_or xs k no_row)) → Writing R a b (k + 1) (set xs (get_or xs k no_row).own_val v)
+  pub writing_again : (v : Row) → v ≡ imaged (get_or xs (get_or xs k no_row).own no_row) (outcome (get_or xs k no_row)) → Writing R a b (k + 1) (set xs (get_or xs k no_row).own v)
   writing_again v ev =
       record {
         rest =
             h.rest ∙
             ap (write_back xs) there ∙
             ap (λ (t : Row). write_back (put_image xs t.own (outcome t)) (part (k + 1) b R)) like_at ∙
-            ap (λ (w : Row). write_back (set xs (get_or xs k no_row).own_val w) (part (k + 1) b R)) (sym ev);
-        bares = map-set_same bare xs (get_or xs k no_row).own_val v no_row (ap bare ev) ∙ h.bares;
+            ap (λ (w : Row). write_back (set xs (get_or xs k no_row).own w) (part (k + 1) b R)) (sym ev);
+        bares = map-set_same bare xs (get_or xs k no_row).own v no_row (ap bare ev) ∙ h.bares;
         inside = (subst (λ (w : List Row). OwnInside (length R) w) there h.inside).1;
       }
 

@@ -1,7 +1,6 @@
--- The order of rows is total, and a sort by it ascends.
+-- A sort by the order of rows ascends.
 use Rattle.std.proofs.Common.{◌≡◌, ℕ, zero, suc, ◌+◌, ◌<◌, ◌≤◌, Bool, true, false, ◌⊎◌, List, [], ◌∷◌, length, get_or, Ordering, Less, Equal, Greater, sym, refl, ap, ◌∙◌, subst, ap₂, inl, inr, ⊎_elim, true≢false, arith}
 use mathlib.Core.Path.{subst⁻¹}
-use Rattle.std.specs.Cmp.{IsTotalOrder, ranks, strict, pairs}
 use Rattle.std.specs.Ordering.{is_lt, ordering_then, MatchOrdering}
 use Rattle.std.specs.List.Sorted.{IsSortedWithin}
 use Rattle.listing.specs.declared.Target.{Target}
@@ -9,18 +8,9 @@ use Rattle.listing.specs.declared.Target.TheVariants.{Node, False, True}
 use Rattle.listing.specs.Listing.{Before, Rises}
 use Rattle.rows.specs.declared.row.Row.{Row}
 use Rattle.rows.specs.Rows.{entry_of}
-use Rattle.listing.specs.Ranks.{rank_target, ranks_target, target_total}
+use Rattle.listing.specs.Ranks.{rank_target, ranks_target}
 use Rattle.rows.specs.Ranks.{rank_row}
 use Rattle.reduce.specs.Sorts.{Alike, Steps, Onwards, Ascending}
-
-abbrev pub row_total : IsTotalOrder (λ (p r : Row) (o : Ordering). o ≡ rank_row p r)
-row_total = record {
-  cmp = rank_row;
-  says = λ x y r e. e;
-  flip = λ x y. (pairs target_total target_total).flip (x.low, x.high) (y.low, y.high);
-  trans = λ x y z. (pairs target_total target_total).trans (x.low, x.high) (y.low, y.high) (z.low, z.high);
-  alike = λ x y z. (pairs target_total target_total).alike (x.low, x.high) (y.low, y.high) (z.low, z.high);
-}
 
 steps_by : (p r : Row) (o k : Ordering) → MatchOrdering o (Before r.low p.low) (r.low ≡ p.low) (Before p.low r.low) →
     MatchOrdering k (Before r.high p.high) (r.high ≡ p.high) (Before p.high r.high) → is_lt (ordering_then o k) ≡ false → Steps p r

@@ -6,7 +6,7 @@ use Rattle.std.proofs.lemmas.List.Sorted.{IsPermutation-refl, IsPermutation-cons
 use Rattle.std.proofs.ByRecursion.{has_shuffled}
 use Rattle.std.proofs.lemmas.Bool.{cond-true, cond-false, cases_Bool}
 use Rattle.std.proofs.lemmas.List.Sums.{sum_by-cons, sum_by-append}
-use Rattle.std.specs.List.{ContainsAt as Has, AllByRecursion as All}
+use Rattle.std.specs.List.{ContainsAt, AllByRecursion}
 use Rattle.pairs.proofs.Lists.{among_left, among_right, among_cases, kept_among, among_kept}
 use Rattle.listing.specs.Members.{In}
 
@@ -15,7 +15,7 @@ has_among [] x k l e = absurd (omega arith)
 has_among (y ∷ xs) x zero l e = inl (sym (e y))
 has_among (y ∷ xs) x (suc k) l e = inr (has_among xs x k (omega arith) e)
 
-among_has : {X : Type 0} (xs : List X) (x : X) → In x xs → Has xs x
+among_has : {X : Type 0} (xs : List X) (x : X) → In x xs → ContainsAt xs x
 among_has [] x m = absurd m
 among_has (y ∷ xs) x (inl e) = (0, omega arith, λ d. sym e)
 among_has (y ∷ xs) x (inr m) = let h = among_has xs x m in (suc h.0, omega (arith, h.1), h.2)
@@ -85,12 +85,12 @@ module _ {X : Type 0} where
   pub bag_length : (xs ys : List X) → Bag xs ys → length xs ≡ length ys
   bag_length xs ys b = sym (sum_ones xs) ∙ b.sums (λ _. 1) ∙ sum_ones ys
 
-  pub all_among : (P : X → Type 0) (xs : List X) → All P xs → (x : X) → In x xs → P x
+  pub all_among : (P : X → Type 0) (xs : List X) → AllByRecursion P xs → (x : X) → In x xs → P x
   all_among P [] h x m = absurd m
   all_among P (y ∷ xs) h x (inl e) = subst⁻¹ P e h.0
   all_among P (y ∷ xs) h x (inr m) = all_among P xs h.1 x m
 
-  pub has_in : (xs : List X) (x : X) → Has xs x → In x xs
+  pub has_in : (xs : List X) (x : X) → ContainsAt xs x → In x xs
   has_in xs x h = has_among xs x h.0 h.1 h.2
 
 pub among_map : {A B : Type 0} (f : A → B) (xs : List A) (y : B) → In y (map f xs) → (x : A) × In x xs × (y ≡ f x)

@@ -2,7 +2,7 @@
 use Rattle.std.proofs.Common.{◌≡◌, ℕ, zero, suc, ◌+◌, ◌<◌, ◌≤◌, Bool, true, false, cond, ◌⊎◌, List, [], ◌∷◌, ◌++◌, map, length, Some, None, Option, Ordering, sym, refl, ap, ◌∙◌, subst, inl, inr, ⊎_elim, arith}
 use mathlib.Core.Path.{subst⁻¹}
 use Rattle.std.specs.Ordering.{is_eq}
-use Rattle.std.specs.List.{AllByRecursion as All, slice_get}
+use Rattle.std.specs.List.{AllByRecursion, slice_get}
 use Rattle.std.proofs.lemmas.Bool.{cases_Bool, cond-true, cond-false, true≢false}
 use Rattle.listing.specs.declared.Target.{Target}
 use Rattle.listing.specs.Members.{In}
@@ -33,7 +33,7 @@ nth_front [] ys i x l e = absurd (omega arith)
 nth_front (y ∷ xs) ys zero x l e = e
 nth_front (y ∷ xs) ys (suc i) x l e = nth_front xs ys i x (omega arith) e
 
-pub among_all : {X : Type 0} (P : X → Type 0) (xs : List X) → ((x : X) → In x xs → P x) → All P xs
+pub among_all : {X : Type 0} (P : X → Type 0) (xs : List X) → ((x : X) → In x xs → P x) → AllByRecursion P xs
 among_all P [] h = tt
 among_all P (x ∷ xs) h = (h x (inl refl), among_all P xs (λ y m. h y (inr m)))
 

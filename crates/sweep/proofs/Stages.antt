@@ -2,7 +2,7 @@
 use Rattle.std.proofs.Common.{◌≡◌, ℕ, zero, suc, ◌+◌, ◌<◌, ◌≤◌, Bool, true, false, cond, ◌⊎◌, List, [], ◌∷◌, ◌++◌, length, get_or, take, drop, set, Some, None, sym, refl, ap, ◌∙◌, subst, ap₂, inl, inr, ⊎_elim, arith, drop-set-lt}
 use mathlib.Core.Path.{subst⁻¹}
 use Rattle.std.specs.List.Sorted.{IsPermutation}
-use Rattle.std.specs.List.{slice_get, AllByRecursion as All}
+use Rattle.std.specs.List.{slice_get, AllByRecursion}
 use Rattle.std.proofs.lemmas.List.{length-set, drop-drop}
 use Rattle.std.proofs.lemmas.Bool.{cases_Bool, cond-true, cond-false}
 use Rattle.listing.specs.declared.Target.{Target}
@@ -206,7 +206,7 @@ module _ (r : Run) (ok : Sides r) (space room : ℕ) (before : List Row) (len : 
 
   module _ (k l : ℕ) (rows : List Row) (ws : List (Element PairKey Request)) (s : Mid r space room before k l rows ws) where
     -- what waits is of rows that there are
-    pub mid_within : All (λ (y : Element PairKey Request). y.carried.row < length rows) ws
+    pub mid_within : AllByRecursion (λ (y : Element PairKey Request). y.carried.row < length rows) ws
     mid_within = among_all _ ws (λ y m. let z = waits_row r (Keyed r) s.pairs space room ok s.are k s.front ws s.put y m in omega (arith, s.size, s.bound))
 
     -- none waits: the run is done

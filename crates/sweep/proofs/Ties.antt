@@ -3,7 +3,7 @@ use Rattle.std.proofs.Common.{◌≡◌, ℕ, Bool, true, false, ◌⊎◌, List
 use mathlib.Core.Path.{subst⁻¹}
 use Rattle.std.specs.Ordering.{is_eq, is_gt, ordering_reverse}
 use Rattle.std.specs.List.Sorted.{IsPermutation}
-use Rattle.std.specs.List.{AllByRecursion as All}
+use Rattle.std.specs.List.{AllByRecursion}
 use Rattle.std.proofs.lemmas.Bool.{cases_Bool, true≢false, false≢true}
 use Rattle.std.proofs.ByRecursion.{All-weaker, all_shuffled}
 use Rattle.std.proofs.lemmas.List.Sorted.{IsPermutation-refl, IsPermutation-cons, IsPermutation-trans, IsPermutation-sym, IsPermutation-swap}
@@ -25,7 +25,7 @@ no_way Less a b c = true≢false b
 no_way Equal a b c = true≢false c
 no_way Greater a b c = true≢false a
 
-all_right : {X : Type 0} (P : X → Type 0) (xs ys : List X) → All P (xs ++ ys) → All P ys
+all_right : {X : Type 0} (P : X → Type 0) (xs ys : List X) → AllByRecursion P (xs ++ ys) → AllByRecursion P ys
 all_right P [] ys h = h
 all_right P (x ∷ xs) ys h = all_right P xs ys h.1
 
@@ -49,15 +49,15 @@ tie_not rank law key e y a b c = ⊎_elim (λ h. absurd (no_way (rank e key) (ap
 -- all that tie with the key are gone, and the others wait on
 pub record Drained {K V : Type 0} (rank : K → K → Ordering) (key : K) (xs ys : List (Element K V)) : Type 0 where
   pub gone : List (Element K V)
-  pub ties : All (λ y. is_eq (rank y.key key) ≡ true) gone
+  pub ties : AllByRecursion (λ y. is_eq (rank y.key key) ≡ true) gone
   pub rest : IsPermutation xs (gone ++ ys)
-  pub apart : All (λ y. is_eq (rank y.key key) ≡ false) ys
+  pub apart : AllByRecursion (λ y. is_eq (rank y.key key) ≡ false) ys
 
 module _ {K V : Type 0} (rank : K → K → Ordering) (key : K) where
   -- what is gone so far
   pub record Going-on (xs ys : List (Element K V)) : Type 0 where
     pub gone : List (Element K V)
-    pub ties : All (λ y. is_eq (rank y.key key) ≡ true) gone
+    pub ties : AllByRecursion (λ y. is_eq (rank y.key key) ≡ true) gone
     pub rest : IsPermutation xs (gone ++ ys)
 
   pub on_none : (xs : List (Element K V)) → Going-on xs xs
@@ -72,19 +72,19 @@ module _ {K V : Type 0} (rank : K → K → Ordering) (key : K) where
             (IsPermutation-trans (d.gone ++ ys) (d.gone ++ e ∷ zs) (e ∷ (d.gone ++ zs)) (shuffled_after d.gone ys (e ∷ zs) s) (IsPermutation-sym (e ∷ (d.gone ++ zs)) (d.gone ++ e ∷ zs) (shuffled_middle d.gone zs e)));
       }
 
-  pub on_end : Lawful rank → (xs ys : List (Element K V)) (e : Element K V) → All (λ y. UpTo rank key y.key) xs → Going-on xs ys → All (λ y. UpTo rank e.key y.key) ys → UpTo rank key e.key → is_eq (rank e.key key) ≡ false → Drained rank key xs ys
+  pub on_end : Lawful rank → (xs ys : List (Element K V)) (e : Element K V) → AllByRecursion (λ y. UpTo rank key y.key) xs → Going-on xs ys → AllByRecursion (λ y. UpTo rank e.key y.key) ys → UpTo rank key e.key → is_eq (rank e.key key) ≡ false → Drained rank key xs ys
   on_end law xs ys e low d h u c =
       record { gone = d.gone; ties = d.ties; rest = d.rest; apart = All-weaker (λ (y : Element K V). UpTo rank e.key y.key) (λ (y : Element K V). is_eq (rank y.key key) ≡ false) (λ y a. tie_not rank law key e.key y.key a u c) ys h }
 
   pub on_empty : (xs ys : List (Element K V)) → Going-on xs ys → ys ≡ [] → Drained rank key xs ys
-  on_empty xs ys d e = record { gone = d.gone; ties = d.ties; rest = d.rest; apart = subst⁻¹ (All (λ y. is_eq (rank y.key key) ≡ false)) e tt }
+  on_empty xs ys d e = record { gone = d.gone; ties = d.ties; rest = d.rest; apart = subst⁻¹ (AllByRecursion (λ y. is_eq (rank y.key key) ≡ false)) e tt }
 
   -- what is left is not before the key
-  pub on_low : (xs ys : List (Element K V)) → All (λ y. UpTo rank key y.key) xs → Going-on xs ys → All (λ y. UpTo rank key y.key) ys
+  pub on_low : (xs ys : List (Element K V)) → AllByRecursion (λ y. UpTo rank key y.key) xs → Going-on xs ys → AllByRecursion (λ y. UpTo rank key y.key) ys
   on_low xs ys low d = all_right (λ (y : Element K V). UpTo rank key y.key) d.gone ys (all_shuffled (λ (y : Element K V). UpTo rank key y.key) xs (d.gone ++ ys) d.rest low)
 
   -- what holds of each, holds of each that is left
-  pub on_all : (P : Element K V → Type 0) (xs ys : List (Element K V)) → All P xs → Going-on xs ys → All P ys
+  pub on_all : (P : Element K V → Type 0) (xs ys : List (Element K V)) → AllByRecursion P xs → Going-on xs ys → AllByRecursion P ys
   on_all P xs ys low d = all_right P d.gone ys (all_shuffled P xs (d.gone ++ ys) d.rest low)
 
 module _ {K : Type 0} (rank : K → K → Ordering) (key : K) (t : Target) where

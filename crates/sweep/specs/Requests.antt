@@ -2,7 +2,7 @@
 use Rattle.std.specs.Prelude.{◌≡◌, ℕ, ◌<◌, ◌≤◌, Bool, true, false, cond, List, [], ◌∷◌, ◌++◌, map, length, set, Some, None, Ok, Err, Option, Result, slice_index_or, slice_set}
 use Rattle.std.specs.declared.cmp.Ordering.{Ordering}
 use Rattle.std.specs.Ordering.{is_eq}
-use Rattle.std.specs.List.{AllByRecursion as All}
+use Rattle.std.specs.List.{AllByRecursion}
 use Rattle.std.specs.List.Sorted.{IsPermutation}
 use Rattle.listing.specs.declared.Target.{Target}
 use Rattle.listing.specs.declared.Target.TheVariants.{Node, False, True}
@@ -69,9 +69,9 @@ pointed t (e ∷ es) rows = slice_set (pointed t es rows) e.carried.row (point t
 -- all that tie with the key are gone, their arcs are set to the target, and the others wait on
 pub record Pointed {K : Type 0} (rank : K → K → Ordering) (key : K) (t : Target) (xs ys : List (Element K Request)) (before after : List Row) : Type 0 where
   pub gone : List (Element K Request)
-  pub ties : All (λ y. is_eq (rank y.key key) ≡ true) gone
+  pub ties : AllByRecursion (λ y. is_eq (rank y.key key) ≡ true) gone
   pub rest : IsPermutation xs (gone ++ ys)
-  pub apart : All (λ y. is_eq (rank y.key key) ≡ false) ys
+  pub apart : AllByRecursion (λ y. is_eq (rank y.key key) ≡ false) ys
   pub rows : after ≡ pointed t gone before
 
 -- the next pair is that of the least key: all arcs that wait for it are pointed at row k

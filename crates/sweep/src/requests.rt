@@ -1,7 +1,7 @@
 // The arcs of rows: put into the queue as requests, taken again, and pointed at rows.
 
 ghost use Rattle.std.specs.Prelude.{◌≡◌, ◌^◌, ◌<◌, length};
-ghost use Rattle.std.specs.List.{AllByRecursion as All};
+ghost use Rattle.std.specs.List.{AllByRecursion};
 ghost use Rattle.listing.specs.declared.Target.TheVariants.{Node};
 ghost use Rattle.queue.specs.Rank.{UpTo};
 ghost use Rattle.pairs.specs.Pairs.{opens, verdict};
@@ -119,8 +119,8 @@ fn pointing(old: Row, high: bool, target: Target) -> Row
 // Takes all that wait for the key, which none waits before, and sets their arcs to the target.
 fn point_all<K: Key, Q: Queue<K, Request>>(queue: &mut Q, key: K, rows: &mut [Row], target: Target)
     requires kept { Q.Queue.kept queue.old }
-    requires least { All (λ y. UpTo K.Key.rank key y.key) (Q.Queue.waiting queue.old) }
-    requires within { All (λ y. y.carried.row < length rows.old) (Q.Queue.waiting queue.old) }
+    requires least { AllByRecursion (λ y. UpTo K.Key.rank key y.key) (Q.Queue.waiting queue.old) }
+    requires within { AllByRecursion (λ y. y.carried.row < length rows.old) (Q.Queue.waiting queue.old) }
     ensures kept { Q.Queue.kept queue.new }
     ensures room { Q.Queue.room queue.new ≡ Q.Queue.room queue.old }
     ensures pointed { Pointed K.Key.rank key target (Q.Queue.waiting queue.old) (Q.Queue.waiting queue.new) rows.old rows.new }
@@ -147,7 +147,7 @@ pub fn next_pair<Q: Queue<PairKey, Request>>(
     row: u32,
 ) -> Option<Pair>
     requires kept { Q.Queue.kept queue.old }
-    requires within { All (λ y. y.carried.row < length rows.old) (Q.Queue.waiting queue.old) }
+    requires within { AllByRecursion (λ y. y.carried.row < length rows.old) (Q.Queue.waiting queue.old) }
     ensures kept { Q.Queue.kept queue.new }
     ensures room { Q.Queue.room queue.new ≡ Q.Queue.room queue.old }
     ensures next { NextPair row (Q.Queue.waiting queue.old) (Q.Queue.waiting queue.new) rows.old rows.new result }

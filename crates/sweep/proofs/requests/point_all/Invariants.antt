@@ -1,5 +1,5 @@
 use Rattle.std.proofs.Common.{◌≡◌, ◌<◌, length}
-use Rattle.std.specs.List.{AllByRecursion as All}
+use Rattle.std.specs.List.{AllByRecursion}
 use Rattle.sweep.specs.Requests.{pointed}
 use Rattle.sweep.proofs.Ties.{Pointing-on}
 use Rattle.sweep.proofs.requests.point_all.Given as goal
