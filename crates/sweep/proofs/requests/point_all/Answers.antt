@@ -50,8 +50,8 @@ inside g c =
 pub offset_bounds-rows-at : goal.offset_bounds-rows-at
 offset_bounds-rows-at g c = let h = inside g c in search rules
 
-pub slice-copy_out·pointing : goal.slice-copy_out·pointing
-slice-copy_out·pointing g c = inside g c
+pub slice_copy_out-pointing : goal.slice_copy_out-pointing
+slice_copy_out-pointing g c = inside g c
 
 pub offset_bounds-rows-at-in-Some : goal.offset_bounds-rows-at-in-Some
 offset_bounds-rows-at-in-Some g c = let h = inside g (goal.at.offset_bounds-rows-at-in-Some g c).After-take in search rules

@@ -15,14 +15,14 @@ use Rattle.sweep.proofs.Sided.{reads_own, reads_on, ready_from, kids_as, start_a
 use Rattle.sweep.proofs.Stages.{Stage, Mid, none_done, stage_first, stage_within, stage_no_row, stage_full, stage_put, mid_within, mid_done, mid_next}
 use Rattle.sweep.proofs.running.open_rows.Given as given
 use Rattle.sweep.proofs.running.open_rows.Goals as goal
-use Rattle.sweep.proofs.running.open_rows.Goals.{After-key_of-key, In-ok-put_arcs}
+use Rattle.sweep.proofs.running.open_rows.Goals.{After-key_of-key, In_ok-put_arcs}
 
 pub start_pair-requires : goal.start_pair-requires
 start_pair-requires g c = record {
   left = c.requires.left;
   right = c.requires.right;
-  reads-left = reads_own _ _ 0 _ (c.reader_of.ensures 0);
-  reads-right = reads_own _ _ 0 _ (c.reader_of-2.ensures 0);
+  reads_left = reads_own _ _ 0 _ (c.reader_of.ensures 0);
+  reads_right = reads_own _ _ 0 _ (c.reader_of-2.ensures 0);
 }
 
 module _ (g : given.Over) (c : goal.After-key_of-key g) where
@@ -103,7 +103,7 @@ returns-in_err-put_arcs g c =
       empty = IfOk-from_err c.from_residual.result _ (ap is_err p.1);
     }
 
-module _ (g : given.Over) (c : goal.In-ok-put_arcs g) where
+module _ (g : given.Over) (c : goal.In_ok-put_arcs g) where
   abbrev run-here : Run
   run-here = run_of (g.L.Source.facts c.args.left.now) (g.L.Source.top c.args.left.now) (g.L.Source.listed c.args.left.now) (g.R.Source.top c.args.right.now) (g.R.Source.listed c.args.right.now) c.args.task
 
@@ -126,7 +126,7 @@ module _ (g : given.Over) (c : goal.In-ok-put_arcs g) where
 
 pub next_pair-requires : goal.next_pair-requires
 next_pair-requires g c =
-    let d = (goal.at.next_pair-requires g c).In-ok-put_arcs in
+    let d = (goal.at.next_pair-requires g c).In_ok-put_arcs in
     record {
       kept = c.in_ok-put_arcs.ensures.kept;
       within = mid_within (run-here g d) (sides-here g d) (length c.args.rows.now) (g.Q.Queue.room c.args.queue.now) c.args.rows.now refl (c.loop-row.row + 1) (level (run-here g d) c.loop-row.key.pair)
@@ -135,7 +135,7 @@ next_pair-requires g c =
 
 pub returns-in-None : goal.returns-in-None
 returns-in-None g c =
-    let d = (goal.at.returns-in-None g c).In-ok-put_arcs in
+    let d = (goal.at.returns-in-None g c).In_ok-put_arcs in
     let e = (goal.at.returns-in-None g c).After-key_of-key in
     let a = c.in-None.ensures in
     let op = c.args.task.operator in
@@ -153,7 +153,7 @@ returns-in-None g c =
 
 pub loop-row-preserved : goal.loop-row-preserved
 loop-row-preserved g c =
-    let d = (goal.at.loop-row-preserved g c).In-ok-put_arcs in
+    let d = (goal.at.loop-row-preserved g c).In_ok-put_arcs in
     let v = c.loop-row.invariant in
     let a = c.in-Some.ensures in
     let n = mid_next (run-here g d) (sides-here g d) (length c.args.rows.now) (g.Q.Queue.room c.args.queue.now) c.args.rows.now refl (c.loop-row.row + 1) (level (run-here g d) c.loop-row.key.pair)
