@@ -1,10 +1,9 @@
 -- From choices on all levels to settings of n facts: what holds of walks holds of values at the lists of n bits.
-use Rattle.std.proofs.Common.{◌≡◌, ℕ, zero, suc, ◌<◌, ◌≤◌, Bool, true, false, cond, ◌⊎◌, List, [], ◌∷◌, length, get_or, Decides, sym, refl, ap, ◌∙◌, ap₂, inl, inr, arith}
+use Rattle.std.proofs.Common.{◌≡◌, ℕ, zero, suc, ◌<◌, Bool, cond, List, [], ◌∷◌, length, Decides, sym, refl, ap, ◌∙◌, ap₂, inl, inr, arith}
 use Rattle.listing.specs.declared.Target.{Target}
 use Rattle.listing.specs.declared.Record.{Record}
-use Rattle.listing.specs.Settings.{fact, Setting}
-use Rattle.listing.specs.Members.{In}
-use Rattle.listing.specs.Listing.{names, child, walk, value, Within, Levelled, Listing, Normal, Agree}
+use Rattle.listing.specs.Settings.{fact}
+use Rattle.listing.specs.Listing.{names, child, walk, value, Levelled, Agree}
 use Rattle.listing.specs.Meaning.{ToldApart, Canonical, Least}
 use Rattle.listing.proofs.Walk.{Choice, Same}
 use Rattle.listing.proofs.Unique.{unlike}

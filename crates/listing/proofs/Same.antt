@@ -1,5 +1,5 @@
 -- Two normal listings with one value are equal; a normal one is no longer than any other.
-use Rattle.std.proofs.Common.{◌≡◌, ℕ, zero, suc, ◌+◌, ◌<◌, ◌≤◌, Bool, true, false, cond, ◌⊎◌, List, [], ◌∷◌, length, sym, refl, ap, ◌∙◌, subst, inl, inr, ⊎_elim, arith}
+use Rattle.std.proofs.Common.{◌≡◌, ℕ, zero, suc, ◌+◌, ◌<◌, ◌≤◌, Bool, true, false, List, [], ◌∷◌, length, sym, refl, ap, ◌∙◌, subst, inl, inr, arith}
 use mathlib.Core.Path.{subst⁻¹}
 use Rattle.listing.specs.declared.Target.{Target}
 use Rattle.listing.specs.declared.Target.TheVariants.{Node, False, True}
@@ -7,7 +7,7 @@ use Rattle.listing.specs.declared.Record.{Record}
 use Rattle.listing.specs.Members.{In}
 use Rattle.listing.specs.Listing.{node, child, walk, Within, Above, Rises, Numbered, Listing, Normal}
 use Rattle.listing.proofs.Order.{rises_irr, rises_trans, rises_move}
-use Rattle.listing.proofs.Walk.{Same, Ahead, Earlier, Chain, within_node, child_within, child_above, cofactors, node_level, node_number}
+use Rattle.listing.proofs.Walk.{Same, Chain, within_node, child_within, child_above, cofactors, node_level, node_number}
 use Rattle.listing.proofs.Unique.{Proper, unlike, own_fact, terminals}
 use Rattle.listing.proofs.Rules.{Ordered, ordered, prior, chain, proper, root_within}
 use Rattle.listing.proofs.Lists.{same_members, Apart, no_longer}

@@ -1,14 +1,13 @@
 -- In a normal listing no two targets have one value.
-use Rattle.std.proofs.Common.{◌≡◌, ℕ, ◌<◌, ◌≤◌, Bool, true, false, cond, ◌⊎◌, List, [], ◌∷◌, sym, refl, ap, ◌∙◌, subst, inl, inr, ⊎_elim, true≢false, arith}
-use mathlib.Core.Path.{subst⁻¹}
+use Rattle.std.proofs.Common.{◌≡◌, Bool, true, false, ◌⊎◌, List, [], ◌∷◌, sym, refl, ap, ◌∙◌, subst, inl, inr, ⊎_elim}
 use mathlib.Core.Bool.{false≢true}
 use Rattle.listing.specs.declared.Target.{Target}
 use Rattle.listing.specs.declared.Target.TheVariants.{Node, False, True}
 use Rattle.listing.specs.declared.Record.{Record}
 use Rattle.listing.specs.Members.{In}
 use Rattle.listing.specs.Listing.{node, child, walk, Within, Above, Rises}
-use Rattle.listing.proofs.Order.{rises_irr, rises_trans}
-use Rattle.listing.proofs.Walk.{Choice, Same, Ahead, Earlier, Chain, strip, within_node, within_cons, child_within, walk_within, drop_fact, cofactors}
+use Rattle.listing.proofs.Order.{rises_irr}
+use Rattle.listing.proofs.Walk.{Choice, Same, Earlier, Chain, strip, child_within, walk_within, drop_fact, cofactors}
 
 -- what makes a listing normal, in the form that each end of it keeps
 abbrev pub Proper : List Record → Type 0

@@ -1,9 +1,8 @@
 -- What the sample listings show: a normal listing there is, and neither half of the normal form can be left out.
 use Rattle.std.specs.Prelude.{◌≡◌, ℕ, List}
 use Rattle.listing.specs.declared.Target.{Target}
-use Rattle.listing.specs.declared.Target.TheVariants.{Node, False, True}
 use Rattle.listing.specs.declared.Record.{Record}
-use Rattle.listing.specs.Listing.{Within, Tested, Sorted, Listing, Normal, Agree}
+use Rattle.listing.specs.Listing.{Within, Listing, Normal, Agree}
 
 -- a normal listing over n facts
 pub record Stands (n : ℕ) (root : Target) (rs : List Record) : Type 0 where

@@ -1,17 +1,17 @@
 -- The arcs that wait behind a front of the rows.
-use Rattle.std.proofs.Common.{◌≡◌, ℕ, zero, suc, ◌+◌, ◌<◌, ◌≤◌, Bool, true, false, cond, ◌&&◌, eqb, ◌⊎◌, List, [], ◌∷◌, ◌++◌, map, length, filter, sym, refl, ap, ◌∙◌, subst, ap₂, inl, inr, ⊎_elim, arith}
+use Rattle.std.proofs.Common.{◌≡◌, ℕ, suc, ◌+◌, Bool, true, false, cond, ◌&&◌, ◌⊎◌, List, [], ◌∷◌, ◌++◌, length, filter, sym, refl, ap, ◌∙◌, subst, ap₂, inl, inr, ⊎_elim, arith}
 use mathlib.Core.Path.{subst⁻¹}
-use Rattle.std.proofs.lemmas.List.{append_assoc, append-nil, length-append}
+use Rattle.std.proofs.lemmas.List.{append_assoc}
 use Rattle.std.proofs.lemmas.List.Elements.{filter-append}
-use Rattle.std.proofs.lemmas.Bool.{cases_Bool, cond-true, cond-false, cond_both, true≢false, false≢true, and_parts, and_from}
+use Rattle.std.proofs.lemmas.Bool.{cases_Bool, cond-true, cond-false, false≢true, and_parts, and_from}
 use Rattle.pairs.specs.declared.Pair.{Pair}
 use Rattle.listing.specs.Members.{In}
-use Rattle.pairs.specs.Pairs.{Run, Sides, level, kid, start, opens, Open, ahead, Ahead}
-use Rattle.pairs.specs.Rows.{Reached, at_root, by_arc, Arc, arc, arcs, beyond, waiting}
+use Rattle.pairs.specs.Pairs.{Run, Sides, kid, opens, Open, ahead, Ahead}
+use Rattle.pairs.specs.Rows.{Reached, Arc, arc, arcs, beyond, waiting}
 use Rattle.pairs.proofs.Model.{least, later}
-use Rattle.pairs.proofs.PairOrder.{irr, trans, total, not_ahead, not_self}
+use Rattle.pairs.proofs.PairOrder.{irr, trans, total}
 use Rattle.pairs.proofs.Pairs.{kid_ahead}
-use Rattle.pairs.proofs.Lists.{among_left, among_right, among_cases, kept_same, kept_none, kept_all, kept_among, among_kept, kept_kept}
+use Rattle.pairs.proofs.Lists.{among_left, among_right, among_cases, kept_same, kept_all, kept_among, among_kept, kept_kept}
 
 and_true : (b : Bool) → (b && true) ≡ b
 and_true true = refl

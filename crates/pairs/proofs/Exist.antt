@@ -1,20 +1,20 @@
 -- A run has rows, and just one list of them.
-use Rattle.std.proofs.Common.{◌≡◌, ℕ, zero, suc, ◌+◌, ◌<◌, ◌≤◌, Bool, true, false, cond, ◌&&◌, ◌⊎◌, List, [], ◌∷◌, ◌++◌, map, length, filter, sym, refl, ap, ◌∙◌, subst, ap₂, inl, inr, ⊎_elim, arith}
+use Rattle.std.proofs.Common.{◌≡◌, ℕ, zero, suc, ◌<◌, ◌≤◌, Bool, true, false, ◌⊎◌, List, [], ◌∷◌, ◌++◌, map, length, filter, sym, refl, ap, ◌∙◌, subst, ap₂, inl, inr, ⊎_elim, arith}
 use mathlib.Core.Path.{subst⁻¹}
-use Rattle.std.proofs.lemmas.Bool.{cases_Bool, cond-true, cond-false, true≢false, false≢true, and_parts, and_from, and_right}
+use Rattle.std.proofs.lemmas.Bool.{cases_Bool, cond-true, cond-false, true≢false, and_parts, and_from, and_right}
 use Rattle.listing.specs.declared.Target.{Target}
 use Rattle.listing.specs.declared.Target.TheVariants.{Node, False, True}
 use Rattle.listing.specs.declared.Record.{Record}
 use Rattle.pairs.specs.declared.Pair.{Pair}
 use Rattle.listing.specs.Listing.{node, Within}
 use Rattle.listing.specs.Members.{In}
-use Rattle.pairs.specs.Pairs.{Run, Sides, level, kid, start, opens, Open, ahead, Ahead}
-use Rattle.pairs.specs.Rows.{Ascending, Reached, at_root, by_arc, Rows, Arc, arcs, beyond, waiting}
+use Rattle.pairs.specs.Pairs.{Run, Sides, kid, start, opens, Open, ahead, Ahead}
+use Rattle.pairs.specs.Rows.{Ascending, Reached, at_root, by_arc, Rows, Arc, beyond, waiting}
 use Rattle.pairs.proofs.Model.{least}
-use Rattle.pairs.proofs.PairOrder.{irr, trans, total, not_ahead, not_self}
+use Rattle.pairs.proofs.PairOrder.{irr, trans, not_self}
 use Rattle.pairs.proofs.Pairs.{kid_ahead, fine}
-use Rattle.pairs.proofs.Lists.{among_left, among_right, among_cases, kept_among, among_kept}
-use Rattle.pairs.proofs.Cuts.{beyond_push, beyond_each, each_beyond, waits_in, in_waits, Wanted, NotAfter, least_wanted, least_first}
+use Rattle.pairs.proofs.Lists.{among_left, among_right, among_cases}
+use Rattle.pairs.proofs.Cuts.{beyond_push, beyond_each, each_beyond, waits_in, in_waits, Wanted, least_wanted, least_first}
 
 module _ {A : Type 0} (f g : A → Bool) where
   one_more : (x : A) (xs : List A) → f x ≡ true → length (filter f (x ∷ xs)) ≡ suc (length (filter f xs))

@@ -1,6 +1,5 @@
 -- Keys are ordered as the pairs, and targets by their numbers.
-use Rattle.std.proofs.Common.{◌≡◌, ℕ, ◌+◌, ◌*◌, ◌^◌, ◌<◌, ◌⊎◌, Ordering, Less, Equal, Greater, sym, refl, ap, ◌∙◌, subst, ap₂, inl, inr, ⊎_elim, arith}
-use mathlib.Core.Path.{subst⁻¹}
+use Rattle.std.proofs.Common.{◌≡◌, ℕ, ◌<◌, ◌⊎◌, Ordering, Less, Equal, Greater, sym, refl, ap₂, inl, inr, ⊎_elim, arith}
 use Rattle.std.specs.Cmp.{one_rank, ranks}
 use Rattle.std.specs.Ordering.{ordering_then, MatchOrdering, nat_cmp}
 use Rattle.std.proofs.lemmas.Bool.{cases_order}
@@ -9,7 +8,6 @@ use Rattle.listing.specs.declared.Target.TheVariants.{Node, False, True}
 use Rattle.listing.specs.Listing.{Before}
 use Rattle.listing.specs.Ranks.{before_irr, before_trans, rank_target, ranks_target}
 use Rattle.pairs.specs.declared.Pair.{Pair}
-use Rattle.pairs.specs.declared.keys.PairKey.{PairKey}
 use Rattle.pairs.specs.Pairs.{Run, level, Ahead}
 use Rattle.pairs.specs.Keys.{key_of, rank_key, Weighs}
 use Rattle.pairs.proofs.PairOrder.{Precedes, ahead_decides, pair_path}

@@ -1,5 +1,5 @@
 -- A model of the sweep, with a list for the queue.
-use Rattle.std.proofs.Common.{◌≡◌, ℕ, zero, suc, ◌<◌, ◌≤◌, Bool, true, false, cond, ltb, List, [], ◌∷◌, ◌++◌, length, take, filter}
+use Rattle.std.proofs.Common.{◌≡◌, ℕ, zero, suc, cond, ltb, List, [], ◌∷◌, ◌++◌, length, take, filter}
 use Rattle.pairs.specs.declared.Pair.{Pair}
 use Rattle.pairs.specs.Pairs.{Run, Sides, start, opens, ahead}
 use Rattle.pairs.specs.Rows.{Rows, Arc, arcs, Outcome, done, no_row, queue-full, Comes}

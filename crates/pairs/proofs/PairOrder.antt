@@ -1,13 +1,12 @@
 -- The order of pairs is strict and total.
-use Rattle.std.proofs.Common.{◌≡◌, ℕ, ◌<◌, ◌≤◌, Bool, true, false, cond, ◌&&◌, ◌||◌, eqb, ltb, ◌⊎◌, Decides, sym, refl, ap, ◌∙◌, subst, ap₂, inl, inr, ⊎_elim, arith}
+use Rattle.std.proofs.Common.{◌≡◌, ℕ, ◌<◌, ◌≤◌, false, ◌⊎◌, Decides, sym, refl, ◌∙◌, subst, ap₂, inl, inr, ⊎_elim, arith}
 use mathlib.Core.Path.{subst⁻¹}
-use Rattle.std.proofs.lemmas.Bool.{cases_order, cases_Bool, false≢true, true≢false}
+use Rattle.std.proofs.lemmas.Bool.{cases_order, cases_Bool}
 use Rattle.std.proofs.lemmas.Bool.Decides.{Decides-eqb, Decides-ltb, Decides-and, Decides-or}
 use Rattle.listing.specs.declared.Target.{Target}
 use Rattle.listing.specs.declared.Target.TheVariants.{Node, False, True}
 use Rattle.pairs.specs.declared.Pair.{Pair}
 use Rattle.listing.specs.Listing.{Before}
-use Rattle.listing.specs.Tests.{before, same_target}
 use Rattle.pairs.specs.Pairs.{Run, level, ahead, Ahead}
 use Rattle.listing.specs.Ranks.{before_irr, before_trans}
 use Rattle.listing.proofs.Deciding as decide

@@ -1,16 +1,16 @@
 -- What the pairs of a run have.
-use Rattle.std.proofs.Common.{◌≡◌, ℕ, ◌<◌, ◌≤◌, min, Bool, true, false, cond, not, ◌&&◌, ◌||◌, ◌⊎◌, sym, refl, ap, ◌∙◌, subst, ap₂, inl, inr, ⊎_elim, arith}
+use Rattle.std.proofs.Common.{◌≡◌, ℕ, ◌<◌, Bool, true, false, ◌||◌, sym, refl, ◌∙◌, ap₂, ⊎_elim, arith}
 use mathlib.Core.Path.{subst⁻¹}
-use Rattle.std.proofs.lemmas.Bool.{cases_Bool, false≢true, true≢false, or_parts, or_cases}
+use Rattle.std.proofs.lemmas.Bool.{false≢true, true≢false, or_parts, or_cases}
 use Rattle.listing.specs.declared.Target.{Target}
 use Rattle.listing.specs.declared.Target.TheVariants.{Node, False, True}
 use Rattle.pairs.specs.declared.Pair.{Pair}
 use Rattle.listing.specs.Listing.{walk}
 use Rattle.listing.proofs.Walk.{Choice}
-use Rattle.pairs.specs.Pairs.{Side, Run, Sides, answer, depth, pair_level, level, kid, start, put, Closed, verdict, differ, opens, Open, Ahead, Told}
+use Rattle.pairs.specs.Pairs.{Run, Sides, answer, pair_level, level, kid, start, put, Closed, verdict, differ, opens, Open, Ahead, Told}
 use Rattle.pairs.specs.Rows.{Reached, at_root, by_arc}
 use Rattle.pairs.proofs.Valued.{fix, value}
-use Rattle.pairs.proofs.Sides.{node_small, Good, good_root, root_walk, good_depth, moved, walk_put}
+use Rattle.pairs.proofs.Sides.{node_small, Good, good_root, root_walk, moved, walk_put}
 use Rattle.pairs.proofs.PairOrder.{level_ahead}
 
 differ_same : (a b : Bool) → differ a b ≡ false → b ≡ a

@@ -4,8 +4,7 @@ use mathlib.Core.Path.{subst⁻¹}
 use Rattle.std.proofs.lemmas.List.{append_assoc, append-nil, length-append}
 use Rattle.std.proofs.lemmas.List.Elements.{filter-append}
 use Rattle.std.proofs.lemmas.Bool.{cases_Bool, cases_lt, cond-true, cond-false, eq-eqb, eqb-true, eqb-false, ne_eqb, and_right}
-use Rattle.listing.specs.declared.Target.{Target}
-use Rattle.listing.specs.declared.Target.TheVariants.{Node, False, True}
+use Rattle.listing.specs.declared.Target.TheVariants.{False, True}
 use Rattle.listing.specs.declared.Record.{Record}
 use Rattle.pairs.specs.declared.Pair.{Pair}
 use Rattle.listing.specs.Listing.{node, child, walk, Within, Above, Rooted, Follows, Numbered, Aims, Aimed, Levelled, Listing}
@@ -19,9 +18,9 @@ use Rattle.pairs.proofs.Valued.{fix, value}
 use Rattle.listing.specs.Settings.{fact, Setting}
 use Rattle.listing.proofs.Bridge.{near}
 use Rattle.pairs.specs.declared.Fixed.{Fixed}
-use Rattle.pairs.proofs.PairOrder.{irr, trans, total, ahead_level, not_ahead, not_self}
+use Rattle.pairs.proofs.PairOrder.{irr, trans, ahead_level, not_ahead, not_self}
 use Rattle.pairs.proofs.Pairs.{small, rises, kid_ahead, value_kid, value_shut, value_start}
-use Rattle.pairs.proofs.Lists.{in_map, map_in, among_left, among_right, among_cases, kept_same, kept_none, kept_all}
+use Rattle.pairs.proofs.Lists.{in_map, map_in, among_left, among_right, among_cases, kept_same, kept_none}
 use Rattle.listing.proofs.Unique.{walk_false, walk_true}
 use Rattle.listing.proofs.Laws.{walk_node}
 use Rattle.listing.proofs.Rules.{chain}

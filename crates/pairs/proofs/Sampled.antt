@@ -1,18 +1,17 @@
 -- The samples, by computation.
-use Rattle.std.proofs.Common.{◌≡◌, ℕ, ◌<◌, Bool, true, false, List, [], ◌∷◌, Some, None, Option, refl, inl, inr, arith}
+use Rattle.std.proofs.Common.{◌≡◌, ℕ, ◌<◌, Bool, true, false, List, [], ◌∷◌, None, Option, refl, inl, inr, arith}
 use mathlib.Core.Path.{subst⁻¹}
-use Rattle.listing.specs.declared.Target.{Target}
-use Rattle.listing.specs.declared.Target.TheVariants.{Node, False, True}
+use Rattle.listing.specs.declared.Target.TheVariants.{False, True}
 use Rattle.listing.specs.declared.Record.{Record}
 use Rattle.listing.specs.Members.{In}
 use Rattle.listing.specs.Listing.{child, Within, Above, Listing}
 use Rattle.pairs.specs.declared.Pair.{Pair}
 use Rattle.pairs.specs.declared.Fixed.{Fixed}
-use Rattle.pairs.specs.Pairs.{Run, Side, Sides, leads, on, fixing, pair_level, move, kid, start, verdict, opens, ahead}
-use Rattle.pairs.specs.Rows.{Rows, arc, arcs, done, no_row, queue-full, Outcome, Comes}
-use Rattle.pairs.specs.Records.{place, terminal, name, row, records_of}
+use Rattle.pairs.specs.Pairs.{Sides, leads, fixing, pair_level, move, kid, start, verdict, opens, ahead}
+use Rattle.pairs.specs.Rows.{Rows, arc, arcs, done, Comes}
+use Rattle.pairs.specs.Records.{place, name, row, records_of}
 use Rattle.pairs.specs.Samples.{rec, just_one_rows, both_rows, turned_rows, fact_side, of_facts, JustOne, BothFacts, fact_set, Turned}
-use Rattle.pairs.proofs.Model.{least, later, Result, next, enter, sweep}
+use Rattle.pairs.proofs.Model.{least, later, next, enter, sweep}
 use Rattle.pairs.proofs.Exist.{rows_are}
 use Rattle.pairs.proofs.Sweep.{model_right}
 

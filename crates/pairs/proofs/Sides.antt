@@ -1,14 +1,13 @@
 -- What a side's targets do: settled targets, children, levels, values.
-use Rattle.std.proofs.Common.{◌≡◌, ℕ, ◌<◌, ◌≤◌, min, Bool, true, false, cond, not, ◌&&◌, ◌||◌, eqb, ltb, ◌⊎◌, List, [], ◌∷◌, Some, None, Option, sym, refl, ap, ◌∙◌, subst, ap₂, subst₂, inl, inr, ⊎_elim, arith}
+use Rattle.std.proofs.Common.{◌≡◌, ℕ, ◌<◌, ◌≤◌, Bool, true, false, ◌⊎◌, List, [], ◌∷◌, Some, None, Option, sym, refl, ap, ◌∙◌, subst, subst₂, inl, inr, arith}
 use mathlib.Core.Path.{subst⁻¹}
-use Rattle.std.proofs.lemmas.Bool.{cases_Bool, false≢true, true≢false, eqb-true, eqb-false, eq-eqb, ne_eqb, cond-true, cond-false, cond_both, or_parts, or_cases}
+use Rattle.std.proofs.lemmas.Bool.{cases_Bool, false≢true, eqb-true, eqb-false, eq-eqb, ne_eqb, cond-true, cond-false, cond_both}
 use Rattle.listing.specs.declared.Target.{Target}
 use Rattle.listing.specs.declared.Target.TheVariants.{Node, False, True}
 use Rattle.listing.specs.declared.Record.{Record}
-use Rattle.pairs.specs.declared.Pair.{Pair}
 use Rattle.pairs.specs.declared.Fixed.{Fixed}
 use Rattle.listing.specs.Members.{In}
-use Rattle.listing.specs.Listing.{node, names, child, walk, Within, Above, Listing}
+use Rattle.listing.specs.Listing.{node, child, walk, Within, Above, Listing}
 use Rattle.pairs.specs.Pairs.{Side, leads, on, fixing, settle, depth, move, put}
 use Rattle.pairs.proofs.Valued.{fix}
 use Rattle.listing.proofs.Walk.{Choice, names_node, names_not, within_apart, within_node, Chain, child_within, child_above}

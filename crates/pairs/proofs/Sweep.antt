@@ -1,12 +1,12 @@
 -- The model of the sweep comes out right.
-use Rattle.std.proofs.Common.{◌≡◌, ℕ, zero, suc, ◌+◌, ◌<◌, ◌≤◌, Bool, true, false, cond, ◌&&◌, ltb, ◌⊎◌, List, [], ◌∷◌, ◌++◌, length, take, filter, sym, refl, ap, ◌∙◌, subst, ap₂, inl, inr, ⊎_elim, arith}
+use Rattle.std.proofs.Common.{◌≡◌, ℕ, zero, suc, ◌+◌, ◌<◌, true, false, ltb, List, [], ◌∷◌, ◌++◌, length, take, sym, refl, ap, ◌∙◌, subst, inl, inr, ⊎_elim, arith}
 use mathlib.Core.Path.{subst⁻¹}
-use Rattle.std.proofs.lemmas.List.{append_assoc, append-nil, length-append, take_at, take_all}
-use Rattle.std.proofs.lemmas.Bool.{cases_Bool, cases_eq, cond-true, cond-false, cond_both, true≢false, false≢true, ltb-true, ltb-false}
+use Rattle.std.proofs.lemmas.List.{append_assoc, append-nil, length-append, take_at}
+use Rattle.std.proofs.lemmas.Bool.{cases_eq, cond_both, ltb-true, ltb-false}
 use Rattle.pairs.specs.declared.Pair.{Pair}
 use Rattle.listing.specs.Members.{In}
-use Rattle.pairs.specs.Pairs.{Run, Sides, kid, start, opens, Open, ahead, Ahead}
-use Rattle.pairs.specs.Rows.{Ascending, Reached, at_root, by_arc, Rows, Arc, arcs, beyond, waiting, cut, Outcome, done, no_row, queue-full, Fits, Comes}
+use Rattle.pairs.specs.Pairs.{Run, Sides, start, opens, Open, Ahead}
+use Rattle.pairs.specs.Rows.{Ascending, Reached, at_root, by_arc, Rows, Arc, arcs, beyond, waiting, cut, done, queue-full, Fits, Comes}
 use Rattle.pairs.proofs.Model.{least, later, Result, next, enter, sweep, ModelRight}
 use Rattle.pairs.proofs.PairOrder.{irr, trans}
 use Rattle.pairs.proofs.Pairs.{kid_ahead}

@@ -1,5 +1,5 @@
 -- The value of a pair at a choice on all levels.
-use Rattle.std.proofs.Common.{ℕ, Bool, cond, eqb, Some, None, Option}
+use Rattle.std.proofs.Common.{Bool, cond, eqb, Some, None, Option}
 use Rattle.listing.specs.Listing.{walk}
 use Rattle.listing.proofs.Walk.{Choice}
 use Rattle.pairs.specs.declared.Pair.{Pair}

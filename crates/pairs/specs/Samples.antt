@@ -1,12 +1,12 @@
 -- A sample: "just one of the facts 0 and 1" made of the two facts, n = 3.
-use Rattle.std.specs.Prelude.{◌≡◌, ℕ, Bool, true, false, List, [], ◌∷◌, Some, None, Option}
+use Rattle.std.specs.Prelude.{◌≡◌, ℕ, true, false, List, [], ◌∷◌, Some, None, Option}
 use Rattle.listing.specs.declared.Target.{Target}
 use Rattle.listing.specs.declared.Target.TheVariants.{Node, False, True}
 use Rattle.listing.specs.declared.Record.{Record}
 use Rattle.pairs.specs.declared.Pair.{Pair}
 use Rattle.pairs.specs.declared.Fixed.{Fixed}
 use Rattle.pairs.specs.Pairs.{answer, Run, Side}
-use Rattle.pairs.specs.Rows.{Rows, Outcome, done, no_row, queue-full, Comes}
+use Rattle.pairs.specs.Rows.{Rows, done, no_row, queue-full, Comes}
 use Rattle.pairs.specs.Records.{records_of, root_of}
 
 abbrev pub rec : ℕ → ℕ → Target → Target → Record

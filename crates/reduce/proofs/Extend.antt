@@ -1,11 +1,10 @@
 -- One more level in front of what is reduced.
-use Rattle.std.proofs.Common.{◌≡◌, ℕ, ◌+◌, ◌<◌, ◌≤◌, Bool, true, false, cond, ◌⊎◌, List, [], ◌∷◌, ◌++◌, sym, refl, ap, ◌∙◌, subst, inl, inr, ⊎_elim, arith}
-use mathlib.Core.Path.{subst⁻¹}
+use Rattle.std.proofs.Common.{◌≡◌, ℕ, ◌+◌, ◌<◌, true, false, ◌⊎◌, List, [], ◌∷◌, ◌++◌, sym, refl, ap, ◌∙◌, subst, inl, inr, ⊎_elim, arith}
 use Rattle.listing.specs.declared.Target.{Target}
-use Rattle.listing.specs.declared.Target.TheVariants.{Node, False, True}
+use Rattle.listing.specs.declared.Target.TheVariants.{False, True}
 use Rattle.listing.specs.declared.Record.{Record}
 use Rattle.listing.specs.Members.{In}
-use Rattle.listing.specs.Listing.{node, Within, Above, Numbered, Follows, Rises, Rising, Sorted}
+use Rattle.listing.specs.Listing.{node, Within, Numbered, Follows, Rises, Rising, Sorted}
 use Rattle.listing.proofs.Walk.{Chain, within_node, child_within}
 use Rattle.reduce.specs.Reduction.{Copies, Replaced, Replaces, Reduces}
 

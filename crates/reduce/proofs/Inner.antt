@@ -1,13 +1,12 @@
 -- What the theorem needs of the given records: of a listing, and of rows that are named by their places.
-use Rattle.std.proofs.Common.{◌≡◌, ℕ, ◌+◌, ◌<◌, ◌≤◌, Bool, true, false, ◌⊎◌, List, [], ◌∷◌, sym, refl, ap, ◌∙◌, subst, inl, inr, ⊎_elim, arith}
-use mathlib.Core.Path.{subst⁻¹}
+use Rattle.std.proofs.Common.{ℕ, ◌+◌, ◌<◌, ◌≤◌, List, [], ◌∷◌, ap, inl, inr, ⊎_elim, arith}
 use Rattle.std.proofs.lemmas.Bool.{cases_order}
 use Rattle.listing.specs.declared.Target.{Target}
 use Rattle.listing.specs.declared.Record.{Record}
 use Rattle.listing.specs.Members.{In}
-use Rattle.listing.specs.Listing.{Within, Above, Rooted, Aimed, Listing}
-use Rattle.listing.proofs.Walk.{Ahead, Earlier, Chain}
-use Rattle.listing.proofs.Rules.{Ordered, chain, chain_from}
+use Rattle.listing.specs.Listing.{Rooted, Aimed}
+use Rattle.listing.proofs.Walk.{Ahead, Chain}
+use Rattle.listing.proofs.Rules.{Ordered, chain_from}
 use Rattle.reduce.specs.Reduction.{Placed, Onward, Monotone, Rowing}
 
 pub record Inner (n : ℕ) (root : Target) (xs : List Record) : Type 0 where

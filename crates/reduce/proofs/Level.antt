@@ -1,5 +1,5 @@
 -- One level settled: its rows mapped, sorted, numbered, and their outcomes written back.
-use Rattle.std.proofs.Common.{◌≡◌, ℕ, zero, suc, ◌+◌, ◌-◌, ◌<◌, ◌≤◌, Bool, true, false, cond, ◌≢◌, ◌⊎◌, List, [], ◌∷◌, ◌++◌, map, length, get_or, take, drop, set, sym, refl, ap, ◌∙◌, subst, ap₂, inl, inr, ⊎_elim, add-one, arith, length-append, length-set, get_or-set_other, get_or-set_same, take_at, drop_at}
+use Rattle.std.proofs.Common.{◌≡◌, ℕ, suc, ◌+◌, ◌-◌, ◌<◌, ◌≤◌, Bool, true, false, cond, ◌≢◌, ◌⊎◌, List, [], ◌∷◌, ◌++◌, map, length, get_or, take, drop, sym, refl, ap, ◌∙◌, subst, ap₂, inl, inr, ⊎_elim, arith, length-append, length-set, get_or-set_other, get_or-set_same, take_at, drop_at}
 use mathlib.Core.Path.{subst⁻¹}
 use lib.Seq.{map-set_same, take-set-le}
 use Rattle.std.specs.List.Sorted.{IsPermutation}
@@ -12,7 +12,7 @@ use Rattle.listing.specs.declared.Target.{Target}
 use Rattle.listing.specs.declared.Target.TheVariants.{Node, False, True}
 use Rattle.listing.specs.declared.Record.{Record}
 use Rattle.listing.specs.Members.{In}
-use Rattle.listing.specs.Listing.{node, Within, Above, Rises}
+use Rattle.listing.specs.Listing.{node, Within}
 use Rattle.listing.proofs.Walk.{Chain}
 use Rattle.rows.specs.declared.row.Row.{Row}
 use Rattle.reduce.specs.Reduction.{Copies, Replaced, Replaces, Reduces, Placed}
@@ -21,8 +21,8 @@ use Rattle.rows.specs.Rows.{zero_row, no_row, entry_of, given}
 use Rattle.reduce.specs.Passes.{kept, image_of, move_row, move_rows, fresh, mark, number_rows, outcome, imaged, put_image, write_back}
 use Rattle.reduce.specs.Sorts.{Alike, Ascending}
 use Rattle.reduce.proofs.Inner.{placed_le}
-use Rattle.reduce.proofs.Extend.{Block, Climbs, block_level, extend}
-use Rattle.reduce.proofs.Rowed.{On, Marks, same_target_eq, same_target_ne, kept_block, kept_climbs, kept_of, one_number, kept_from, marked_back, marked_forth}
+use Rattle.reduce.proofs.Extend.{Block, block_level, extend}
+use Rattle.reduce.proofs.Rowed.{On, same_target_eq, same_target_ne, kept_block, kept_climbs, kept_of, one_number, kept_from, marked_back, marked_forth}
 
 -- membership by place, and by cases
 on_has : (x : Row) (xs : List Row) → On x xs → ContainsAt xs x

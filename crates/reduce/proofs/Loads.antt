@@ -4,7 +4,7 @@ use mathlib.Core.Path.{subst⁻¹}
 use Rattle.std.proofs.lemmas.List.{length-map, length-take-le}
 use Rattle.listing.specs.declared.Target.{Target}
 use Rattle.listing.specs.declared.Record.{Record}
-use Rattle.listing.specs.Listing.{Listing, Normal}
+use Rattle.listing.specs.Listing.{Listing}
 use Rattle.rows.specs.declared.row.Row.{Row}
 use Rattle.reduce.specs.declared.faults.LoadFault.{LoadFault}
 use Rattle.reduce.specs.declared.faults.LoadFault.TheVariants as fault

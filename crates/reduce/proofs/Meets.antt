@@ -1,12 +1,12 @@
 -- What reduces the records is the normal listing with their value.
-use Rattle.std.proofs.Common.{◌≡◌, ℕ, zero, suc, ◌<◌, ◌≤◌, Bool, true, false, cond, ◌⊎◌, List, [], ◌∷◌, sym, refl, ap, ◌∙◌, subst, inl, inr, ⊎_elim, arith}
+use Rattle.std.proofs.Common.{◌≡◌, ℕ, zero, suc, ◌<◌, Bool, true, false, ◌⊎◌, List, [], ◌∷◌, sym, refl, ap, ◌∙◌, subst, inl, inr, ⊎_elim, arith}
 use mathlib.Core.Path.{subst⁻¹}
 use Rattle.listing.specs.declared.Target.{Target}
 use Rattle.listing.specs.declared.Target.TheVariants.{Node, False, True}
 use Rattle.listing.specs.declared.Record.{Record}
 use Rattle.listing.specs.Members.{In}
-use Rattle.listing.specs.Listing.{node, walk, Within, Above, Rooted, Reached, Aimed, Aims, Listing, Normal, child, Targeted}
-use Rattle.listing.proofs.Walk.{Choice, Ahead, Earlier, Chain, strip, within_node, child_within, child_above, above_more, walk_hit, walk_within, node_level, node_number}
+use Rattle.listing.specs.Listing.{node, walk, Within, Above, Rooted, Reached, Aimed, Aims, child, Targeted}
+use Rattle.listing.proofs.Walk.{Choice, Earlier, Chain, strip, within_node, child_within, child_above, above_more, walk_hit, walk_within, node_level, node_number}
 use Rattle.listing.proofs.Unique.{walk_false, walk_true}
 use Rattle.listing.proofs.Laws.{walk_node}
 use Rattle.listing.proofs.Rules.{Ordered, ordered, chain_from, reached, root_within}

@@ -1,16 +1,12 @@
 -- A sort by the order of rows ascends.
-use Rattle.std.proofs.Common.{◌≡◌, ℕ, zero, suc, ◌+◌, ◌<◌, ◌≤◌, Bool, true, false, ◌⊎◌, List, [], ◌∷◌, length, get_or, Ordering, Less, Equal, Greater, sym, refl, ap, ◌∙◌, subst, ap₂, inl, inr, ⊎_elim, true≢false, arith}
-use mathlib.Core.Path.{subst⁻¹}
+use Rattle.std.proofs.Common.{◌≡◌, suc, ◌+◌, false, List, [], ◌∷◌, length, get_or, Ordering, Less, Equal, Greater, sym, subst, inl, inr, true≢false, arith}
 use Rattle.std.specs.Ordering.{is_lt, ordering_then, MatchOrdering}
 use Rattle.std.specs.List.Sorted.{IsSortedWithin}
-use Rattle.listing.specs.declared.Target.{Target}
-use Rattle.listing.specs.declared.Target.TheVariants.{Node, False, True}
-use Rattle.listing.specs.Listing.{Before, Rises}
+use Rattle.listing.specs.Listing.{Before}
 use Rattle.rows.specs.declared.row.Row.{Row}
-use Rattle.rows.specs.Rows.{entry_of}
 use Rattle.listing.specs.Ranks.{rank_target, ranks_target}
 use Rattle.rows.specs.Ranks.{rank_row}
-use Rattle.reduce.specs.Sorts.{Alike, Steps, Onwards, Ascending}
+use Rattle.reduce.specs.Sorts.{Steps, Onwards, Ascending}
 
 steps_by : (p r : Row) (o k : Ordering) → MatchOrdering o (Before r.low p.low) (r.low ≡ p.low) (Before p.low r.low) →
     MatchOrdering k (Before r.high p.high) (r.high ≡ p.high) (Before p.high r.high) → is_lt (ordering_then o k) ≡ false → Steps p r

@@ -1,15 +1,15 @@
 -- The levels, one after another.
-use Rattle.std.proofs.Common.{◌≡◌, ℕ, zero, suc, ◌+◌, ◌-◌, ◌<◌, ◌≤◌, Bool, true, false, ◌⊎◌, List, [], ◌∷◌, ◌++◌, length, get_or, take, drop, sym, refl, ap, ◌∙◌, subst, ap₂, inl, inr, ⊎_elim, append_assoc, arith, length-drop, take-append-drop, length-take, get_or-take}
+use Rattle.std.proofs.Common.{◌≡◌, ℕ, zero, suc, ◌+◌, ◌-◌, ◌<◌, ◌≤◌, true, false, List, [], ◌∷◌, ◌++◌, length, get_or, take, drop, sym, refl, ap, ◌∙◌, subst, ap₂, inl, inr, ⊎_elim, append_assoc, arith, length-drop, take-append-drop, length-take, get_or-take}
 use mathlib.Core.Path.{subst⁻¹}
 use Rattle.std.specs.List.Sorted.{IsPermutation}
-use Rattle.std.proofs.lemmas.List.{take-take, drop_all, take_all, drop-drop}
+use Rattle.std.proofs.lemmas.List.{take-take, drop_all, drop-drop}
 use Rattle.std.proofs.lemmas.Slice.{between_is}
 use Rattle.std.proofs.lemmas.List.Edits.{get_or-between}
 use Rattle.listing.specs.declared.Target.{Target}
 use Rattle.listing.specs.declared.Target.TheVariants.{Node, False, True}
 use Rattle.listing.specs.declared.Record.{Record}
 use Rattle.listing.specs.Members.{In}
-use Rattle.listing.specs.Listing.{node, Within, Above}
+use Rattle.listing.specs.Listing.{Within, Above}
 use Rattle.listing.proofs.Walk.{Chain}
 use Rattle.rows.specs.declared.row.Row.{Row}
 use Rattle.reduce.specs.Reduction.{Reduces, Rowing, Placed, Monotone}
@@ -18,7 +18,7 @@ use Rattle.rows.specs.Rows.{zero_row, no_row, given, Inside, AllInside}
 use Rattle.reduce.specs.Passes.{kept, image_of, move_rows, number_rows, write_back}
 use Rattle.reduce.specs.Settles.{part, Settled}
 use Rattle.reduce.specs.Levels.{Starts}
-use Rattle.reduce.proofs.Inner.{Inner, inner_rows, placed_le, onward_all, onward_tail}
+use Rattle.reduce.proofs.Inner.{inner_rows, placed_le, onward_all, onward_tail}
 use Rattle.reduce.proofs.Extend.{in_left, in_right, in_split}
 use Rattle.reduce.proofs.Meets.{normalizes}
 use Rattle.reduce.proofs.Level.{given_append, given_below, settled, front_is}

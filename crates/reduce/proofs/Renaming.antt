@@ -1,15 +1,15 @@
 -- A listing with places for numbers is a listing of rows, with the same value.
-use Rattle.std.proofs.Common.{◌≡◌, ℕ, ◌+◌, ◌<◌, ◌≤◌, Bool, true, false, cond, ◌⊎◌, List, [], ◌∷◌, sym, refl, ap, ◌∙◌, subst, ap₂, inl, inr, ⊎_elim, arith}
+use Rattle.std.proofs.Common.{◌≡◌, ℕ, ◌+◌, ◌<◌, Bool, true, false, List, [], ◌∷◌, refl, ap, ◌∙◌, inl, inr, ⊎_elim, arith}
 use mathlib.Core.Path.{subst⁻¹}
 use Rattle.std.proofs.lemmas.Bool.{cond-true, cond-false}
 use Rattle.listing.specs.declared.Target.{Target}
 use Rattle.listing.specs.declared.Target.TheVariants.{Node, False, True}
 use Rattle.listing.specs.declared.Record.{Record}
 use Rattle.listing.specs.Members.{In}
-use Rattle.listing.specs.Listing.{node, names, walk, Within, Above, Rooted, Follows, Numbered, Aims, Reached, Aimed, Listing, child, Targeted}
-use Rattle.listing.proofs.Walk.{Choice, Earlier, Chain, names_node, names_not, within_node, within_apart}
+use Rattle.listing.specs.Listing.{node, walk, Within, Above, Rooted, Follows, Numbered, Reached, Aimed, Listing, child, Targeted}
+use Rattle.listing.proofs.Walk.{Choice, Earlier, names_node, names_not, within_node, within_apart}
 use Rattle.listing.proofs.Rules.{Ordered, ordered, chain, root_within}
-use Rattle.reduce.specs.Reduction.{Copies, Replaced, Placed, Onward, Monotone, Rowing}
+use Rattle.reduce.specs.Reduction.{Replaced, Placed, Onward, Monotone, Rowing}
 use Rattle.listing.specs.Settings.{fact}
 use Rattle.reduce.specs.Contract.{Normalizes}
 use Rattle.rows.specs.Placing.{place_of, placing, place_record, place_records}

@@ -1,18 +1,17 @@
 -- Rows of one level: numbers, and the rows that are kept.
-use Rattle.std.proofs.Common.{◌≡◌, ℕ, ◌+◌, ◌<◌, ◌≤◌, Bool, true, false, cond, not, ◌&&◌, eqb, ◌⊎◌, List, [], ◌∷◌, ◌++◌, map, sym, refl, ap, ◌∙◌, subst, ap₂, inl, inr, ⊎_elim, arith}
+use Rattle.std.proofs.Common.{◌≡◌, ℕ, ◌+◌, Bool, true, false, not, ◌⊎◌, List, [], ◌∷◌, sym, refl, ap, ◌∙◌, subst, inl, inr, ⊎_elim, arith}
 use mathlib.Core.Path.{subst⁻¹}
-use Rattle.std.proofs.lemmas.Bool.{eq-eqb, eqb-true, and_parts, and_from, cases_Bool, cond-true, cond-false, both_ways}
+use Rattle.std.proofs.lemmas.Bool.{and_parts, and_from, cases_Bool, cond-true, cond-false, both_ways}
 use Rattle.listing.specs.declared.Target.{Target}
-use Rattle.listing.specs.declared.Target.TheVariants.{Node, False, True}
 use Rattle.listing.specs.declared.Record.{Record}
 use Rattle.listing.specs.Members.{In}
-use Rattle.listing.specs.Listing.{node, Within, Above, Before, Rises}
+use Rattle.listing.specs.Listing.{Rises}
 use Rattle.listing.proofs.Order.{rises_irr, rises_trans, rises_move}
 use Rattle.rows.specs.declared.row.Row.{Row}
 use Rattle.listing.specs.Tests.{same_target}
 use Rattle.listing.proofs.Deciding as decides
 use Rattle.rows.specs.Rows.{zero_row, entry_of, like}
-use Rattle.reduce.specs.Passes.{kept, fresh, mark, number_rows, outcome}
+use Rattle.reduce.specs.Passes.{kept, fresh, mark, number_rows}
 use Rattle.reduce.specs.Sorts.{Alike, Steps, Onwards, Ascending}
 use Rattle.reduce.proofs.Extend.{Block, Climbs}
 

@@ -1,12 +1,11 @@
 -- The passes over a level, put together.
-use Rattle.std.proofs.Common.{◌≡◌, ℕ, ◌+◌, ◌-◌, ◌<◌, ◌≤◌, List, [], ◌∷◌, ◌++◌, length, take, drop, sym, refl, ap, ◌∙◌, subst, ap₂, inl, inr, arith, length-append, length-drop, length-take, take_at, drop_at}
+use Rattle.std.proofs.Common.{◌≡◌, ℕ, ◌-◌, ◌<◌, ◌≤◌, List, [], ◌∷◌, ◌++◌, length, take, drop, refl, ap, ◌∙◌, subst, ap₂, inl, inr, arith, length-append, length-drop, length-take, take_at, drop_at}
 use mathlib.Core.Path.{subst⁻¹}
 use borrow.Rule.Slice.PartMut.{put_mid}
 use Rattle.std.proofs.lemmas.List.Sorted.{length_permutation}
-use Rattle.listing.specs.declared.Target.{Target}
 use Rattle.rows.specs.declared.row.Row.{Row}
 use Rattle.rows.specs.Rows.{zero_row}
-use Rattle.reduce.specs.Passes.{image_of, move_rows, number_rows, write_back}
+use Rattle.reduce.specs.Passes.{image_of, move_rows, write_back}
 use Rattle.reduce.specs.Sorts.{Arranged}
 use Rattle.reduce.specs.Settles.{OwnInside, part, mapped_level, Settled}
 use Rattle.reduce.proofs.Rowed.{On}

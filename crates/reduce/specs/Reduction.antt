@@ -1,10 +1,10 @@
 -- When records ys, with an image for each target, are what records xs reduce to.
-use Rattle.std.specs.Prelude.{◌≡◌, ℕ, ◌+◌, ◌<◌, ◌≤◌, ◌⊎◌, List, [], ◌∷◌, ◌≢◌}
+use Rattle.std.specs.Prelude.{◌≡◌, ℕ, ◌+◌, ◌≤◌, ◌⊎◌, List, [], ◌∷◌, ◌≢◌}
 use Rattle.listing.specs.declared.Target.{Target}
-use Rattle.listing.specs.declared.Target.TheVariants.{Node, False, True}
+use Rattle.listing.specs.declared.Target.TheVariants.{False, True}
 use Rattle.listing.specs.declared.Record.{Record}
 use Rattle.listing.specs.Members.{In}
-use Rattle.listing.specs.Listing.{node, Within, Above, Rooted, Aimed, Numbered, Sorted, Levelled, Targeted}
+use Rattle.listing.specs.Listing.{node, Rooted, Aimed, Numbered, Sorted, Levelled, Targeted}
 
 -- c has r's level, and the images of r's targets
 pub record Copies (im : Target → Target) (r c : Record) : Type 0 where

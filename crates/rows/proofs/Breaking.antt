@@ -1,5 +1,5 @@
 -- From the places that break a rule to the rule, and back.
-use Rattle.std.proofs.Common.{◌≡◌, ℕ, zero, suc, ◌+◌, ◌-◌, ◌<◌, ◌≤◌, Bool, true, false, eqb, ◌⊎◌, List, [], ◌∷◌, length, take, Some, None, Decides, sym, refl, ap, ◌∙◌, subst, inl, inr, ⊎_elim, arith}
+use Rattle.std.proofs.Common.{◌≡◌, ℕ, zero, suc, ◌<◌, ◌≤◌, Bool, true, eqb, List, [], ◌∷◌, length, Some, None, Decides, sym, refl, ap, ◌∙◌, subst, inl, inr, ⊎_elim, arith}
 use mathlib.Core.Path.{subst⁻¹}
 use Rattle.std.specs.List.{slice_get}
 use Rattle.std.proofs.lemmas.Bool.{cases_Bool, both_ways}
@@ -11,7 +11,7 @@ use Rattle.listing.specs.Listing.{node, names, Rooted, Levelled, Next, Follows, 
 use Rattle.listing.specs.Tests as test
 use Rattle.listing.proofs.Deciding as decides
 use Rattle.listing.proofs.Walk.{names_eq, names_node}
-use Rattle.rows.specs.Breaks.{terminal, First, TooHigh, Misnumbered}
+use Rattle.rows.specs.Breaks.{terminal, TooHigh, Misnumbered}
 
 -- what is decided and cannot fail holds
 pub stable : {P : Type 0} (a : Bool) → Decides a P → ((P → ⊥) → ⊥) → P

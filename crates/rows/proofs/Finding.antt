@@ -1,5 +1,5 @@
 -- Finding a node's place in records that are in order.
-use Rattle.std.proofs.Common.{◌≡◌, ℕ, zero, suc, ◌+◌, ◌-◌, ◌<◌, ◌≤◌, Bool, true, false, cond, ◌⊎◌, List, [], ◌∷◌, map, length, take, drop, set, Some, None, Option, sym, refl, ap, ◌∙◌, subst, ap₂, inl, inr, ⊎_elim, arith, MatchOption}
+use Rattle.std.proofs.Common.{◌≡◌, ℕ, zero, suc, ◌+◌, ◌<◌, ◌≤◌, Bool, true, false, ◌⊎◌, List, [], ◌∷◌, map, length, take, set, Some, sym, refl, ap, ◌∙◌, subst, ap₂, inl, inr, ⊎_elim, arith}
 use mathlib.Core.Path.{subst⁻¹}
 use Rattle.std.specs.List.{slice_get}
 use Rattle.std.proofs.lemmas.Bool.{cond-true, cond-false, cases_eq, cases_lt, cases_Bool, both_ways}
@@ -12,9 +12,8 @@ use Rattle.listing.specs.Tests as test
 use Rattle.listing.proofs.Deciding as decides
 use Rattle.listing.proofs.Walk.{lev, num, Ahead, node_level, node_number, names_node, names_not}
 use Rattle.listing.proofs.Rules.{Ordered, ordered}
-use Rattle.rows.specs.declared.row.Row.{Row}
 use Rattle.rows.specs.Rows.{given}
-use Rattle.rows.specs.Breaks.{First, Mistargeted}
+use Rattle.rows.specs.Breaks.{Mistargeted}
 use Rattle.rows.specs.Placing.{place_of, placing, place_record, place_records, placed_row, AtPlace, KeptTarget, KeptTargets}
 use Rattle.rows.proofs.Breaking.{stable, in_nth, nth_in, nth_bound, nth_same}
 

@@ -1,23 +1,15 @@
 -- Marking the rows that arcs name.
-use Rattle.std.proofs.Common.{◌≡◌, ℕ, zero, suc, ◌+◌, ◌-◌, ◌<◌, ◌≤◌, Bool, true, false, cond, ◌≢◌, ◌⊎◌, List, [], ◌∷◌, map, length, get_or, take, set, Some, None, Decides, Option, sym, refl, ap, ◌∙◌, subst, ap₂, inl, inr, ⊎_elim, arith, get_or-set_other, get_or-set_same, MatchOption}
+use Rattle.std.proofs.Common.{◌≡◌, ℕ, zero, suc, ◌+◌, ◌<◌, Bool, true, false, ◌⊎◌, List, [], ◌∷◌, map, length, get_or, set, Some, None, Decides, Option, sym, refl, ap, ◌∙◌, inl, inr, ⊎_elim, arith, get_or-set_other, get_or-set_same, MatchOption}
 use mathlib.Core.Path.{subst⁻¹}
-use Rattle.std.specs.List.{slice_get}
-use Rattle.std.proofs.lemmas.Bool.{cases_eq, cases_lt, both_ways}
+use Rattle.std.proofs.lemmas.Bool.{cases_eq, both_ways}
 use Rattle.std.proofs.lemmas.List.{length-map}
 use Rattle.listing.specs.declared.Target.{Target}
 use Rattle.listing.specs.declared.Target.TheVariants.{Node, False, True}
-use Rattle.listing.specs.declared.Record.{Record}
-use Rattle.listing.specs.Members.{In}
-use Rattle.listing.specs.Listing.{node, child, Within, Above, Targeted, Aims, Reached, Aimed}
 use Rattle.listing.proofs.Walk.{num}
-use Rattle.listing.proofs.Rules.{Ordered}
 use Rattle.rows.specs.declared.row.Row.{Row}
 use Rattle.rows.specs.Rows.{no_row, given, Inside, AllInside}
 use Rattle.rows.specs.Marks.{arc, with_mark, bare, marked, Named, Marks, Unnamed, AllNamed}
-use Rattle.rows.specs.Breaks.{First, Unaimed}
-use Rattle.rows.specs.Placing.{place_of, placing, placed_row, AtPlace}
-use Rattle.rows.proofs.Breaking.{in_nth, nth_in, nth_bound, nth_same}
-use Rattle.rows.proofs.Finding.{ahead_at, place_is}
+use Rattle.rows.specs.Breaks.{First}
 
 -- all but the mark of a row at a place
 pub getD_bare : (rows : List Row) (k : ℕ) → get_or (map bare rows) k no_row ≡ bare (get_or rows k no_row)

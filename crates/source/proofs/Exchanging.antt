@@ -1,17 +1,16 @@
 -- What the exchange of False and True does to a listing.
-use Rattle.std.proofs.Common.{◌≡◌, ℕ, ◌<◌, Bool, true, false, cond, not, ◌⊎◌, List, [], ◌∷◌, map, sym, refl, ap, ◌∙◌, subst, ap₂, inl, inr, ⊎_elim}
+use Rattle.std.proofs.Common.{◌≡◌, ℕ, ◌<◌, Bool, true, false, cond, not, ◌⊎◌, List, [], ◌∷◌, map, sym, refl, ap, ◌∙◌, ap₂, inl, inr}
 use mathlib.Core.Path.{subst⁻¹}
 use Rattle.std.proofs.lemmas.Bool.{cond-true, cond-false}
 use Rattle.listing.specs.declared.Target.{Target}
 use Rattle.listing.specs.declared.Target.TheVariants.{Node, False, True}
 use Rattle.listing.specs.declared.Record.{Record}
-use Rattle.listing.specs.Members.{In}
 use Rattle.listing.specs.Settings.{fact}
-use Rattle.listing.specs.Listing.{node, names, child, is_true, walk, Within, Above, Rooted, Follows, Numbered, Aims, Reached, Aimed, Listing}
+use Rattle.listing.specs.Listing.{node, names, child, walk, Within, Above, Rooted, Follows, Numbered, Aims, Reached, Aimed, Listing}
 use Rattle.listing.proofs.Counting.{in_map, in_mapped}
 use Rattle.listing.proofs.Walk.{Choice, Chain, strip, names_node, names_not, within_apart, walk_hit, walk_within}
 use Rattle.listing.proofs.Rules.{chain, root_within}
-use Rattle.source.specs.Exchange.{exchanged, exchanged_record, Negated, Negates}
+use Rattle.source.specs.Exchange.{exchanged, exchanged_record, Negates}
 
 pub twice : (t : Target) → exchanged (exchanged t) ≡ t
 twice (Node l k) = refl

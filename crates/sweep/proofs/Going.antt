@@ -1,8 +1,8 @@
 -- What holds as the rows of a run are opened.
-use Rattle.std.proofs.Common.{◌≡◌, ℕ, zero, suc, ◌+◌, ◌<◌, ◌≤◌, Bool, true, false, cond, not, ◌⊎◌, List, [], ◌∷◌, ◌++◌, map, length, take, Some, None, filter, Ordering, Less, Equal, Greater, sym, refl, ap, ◌∙◌, subst, ap₂, subst₂, inl, inr, ⊎_elim, arith}
+use Rattle.std.proofs.Common.{◌≡◌, ℕ, ◌+◌, ◌<◌, ◌≤◌, Bool, true, false, cond, not, ◌⊎◌, List, [], ◌∷◌, ◌++◌, length, take, Some, Ordering, Less, Equal, Greater, sym, refl, ap, ◌∙◌, subst, ap₂, subst₂, inl, inr, ⊎_elim, arith}
 use mathlib.Core.Path.{subst⁻¹}
 use Rattle.std.specs.Ordering.{MatchOrdering, is_eq, is_gt}
-use Rattle.std.specs.List.{AllByRecursion, slice_get}
+use Rattle.std.specs.List.{slice_get}
 use Rattle.std.specs.List.Sorted.{IsPermutation}
 use Rattle.std.proofs.lemmas.Bool.{cases_Bool, cond-true, true≢false, false≢true}
 use Rattle.std.proofs.lemmas.List.{append_assoc, append-nil, length-append, length-map, map-append, take_at}
@@ -12,9 +12,9 @@ use Rattle.listing.specs.Members.{In}
 use Rattle.pairs.specs.Pairs.{Run, Sides, kid, start, opens, Open, ahead, Ahead}
 use Rattle.pairs.specs.Rows.{Ascending, Reached, at_root, Rows, Arc, arc, arcs, waiting, cut, passing, put_before, Refuses, done, no_row, queue-full, Fits, Comes}
 use Rattle.pairs.proofs.Model.{later}
-use Rattle.pairs.proofs.PairOrder.{irr, trans, not_self, not_ahead}
+use Rattle.pairs.proofs.PairOrder.{irr, not_self}
 use Rattle.pairs.proofs.RowsList.{split_left, head_start}
-use Rattle.pairs.proofs.Lists.{among_left, among_right, among_cases, kept_same, kept_none, kept_all}
+use Rattle.pairs.proofs.Lists.{among_left, among_right, kept_same, kept_none, kept_all}
 use Rattle.pairs.proofs.Cuts.{waits_more, NotAfter}
 use Rattle.sweep.proofs.Indices.{nth_append}
 use Rattle.pairs.proofs.Sweep.{no_next, next_is, cut_is, fits_more, grown}

@@ -1,5 +1,5 @@
 -- Which arcs are taken for a pair: just those that lead to it.
-use Rattle.std.proofs.Common.{◌≡◌, ℕ, zero, suc, ◌+◌, ◌<◌, ◌≤◌, Bool, true, false, cond, ◌⊎◌, List, [], ◌∷◌, ◌++◌, map, length, Some, None, Option, Ordering, sym, refl, ap, ◌∙◌, subst, inl, inr, ⊎_elim, arith}
+use Rattle.std.proofs.Common.{◌≡◌, ℕ, zero, suc, ◌+◌, ◌<◌, Bool, true, false, ◌⊎◌, List, [], ◌∷◌, ◌++◌, length, Some, Ordering, sym, refl, ap, ◌∙◌, subst, inl, inr, ⊎_elim, arith}
 use mathlib.Core.Path.{subst⁻¹}
 use Rattle.std.specs.Ordering.{is_eq}
 use Rattle.std.specs.List.{AllByRecursion, slice_get}
@@ -7,7 +7,7 @@ use Rattle.std.proofs.lemmas.Bool.{cases_Bool, cond-true, cond-false, true≢fal
 use Rattle.listing.specs.declared.Target.{Target}
 use Rattle.listing.specs.Members.{In}
 use Rattle.queue.specs.declared.Element.{Element}
-use Rattle.rows.proofs.Breaking.{nth_in, nth_bound, nth_same}
+use Rattle.rows.proofs.Breaking.{nth_bound, nth_same}
 use Rattle.pairs.specs.declared.Pair.{Pair}
 use Rattle.pairs.specs.Pairs.{Run, Sides, kid, opens, Open, Ahead}
 use Rattle.pairs.specs.Rows.{Ascending, Rows, Arc, arc, arcs, beyond, waiting}
@@ -16,7 +16,7 @@ use Rattle.pairs.proofs.RowsList.{split_left}
 use Rattle.pairs.proofs.Cuts.{each_beyond}
 use Rattle.pairs.proofs.Lists.{among_left, among_right, among_cases, kept_among, among_kept}
 use Rattle.sweep.specs.declared.faults.Request.{Request}
-use Rattle.sweep.proofs.Arcs.{element, elements, Orders}
+use Rattle.sweep.proofs.Arcs.{element, Orders}
 use Rattle.sweep.proofs.Bags.{shuffled_bag, all_among, among_map, map_among}
 use Rattle.sweep.proofs.Ties.{Drained}
 use Rattle.sweep.proofs.Pointing.{Hit}

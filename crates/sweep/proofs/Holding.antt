@@ -1,16 +1,16 @@
 -- What the rows opened so far hold: levels, terminals for closed children, and arcs to the rows that are known.
-use Rattle.std.proofs.Common.{◌≡◌, ℕ, zero, suc, ◌+◌, ◌<◌, ◌≤◌, Bool, true, false, cond, ◌⊎◌, List, [], ◌∷◌, ◌++◌, length, get_or, set, Some, None, sym, refl, ap, ◌∙◌, subst, ap₂, inl, inr, ⊎_elim, arith, get_or-set_other, get_or-set_same}
+use Rattle.std.proofs.Common.{◌≡◌, ℕ, ◌+◌, ◌<◌, ◌≤◌, Bool, true, false, List, length, get_or, set, Some, sym, ap, ◌∙◌, subst, ap₂, ⊎_elim, arith, get_or-set_other, get_or-set_same}
 use mathlib.Core.Path.{subst⁻¹}
 use Rattle.std.specs.List.{slice_get}
-use Rattle.std.proofs.lemmas.Bool.{cases_eq, cond-false, true≢false}
+use Rattle.std.proofs.lemmas.Bool.{cases_eq, true≢false}
 use Rattle.listing.specs.declared.Target.{Target}
-use Rattle.listing.specs.declared.Target.TheVariants.{Node, False, True}
+use Rattle.listing.specs.declared.Target.TheVariants.{Node}
 use Rattle.listing.specs.Members.{In}
 use Rattle.queue.specs.declared.Element.{Element}
 use Rattle.rows.specs.declared.row.Row.{Row}
 use Rattle.rows.specs.Rows.{no_row}
 use Rattle.rows.specs.Marks.{arc}
-use Rattle.rows.proofs.Breaking.{nth_in, nth_bound, nth_same}
+use Rattle.rows.proofs.Breaking.{nth_in, nth_same}
 use Rattle.pairs.specs.declared.Pair.{Pair}
 use Rattle.pairs.specs.Pairs.{Run, Sides, level, kid, opens, verdict, Open}
 use Rattle.pairs.specs.Rows.{Rows}
@@ -19,7 +19,7 @@ use Rattle.pairs.proofs.Pairs.{kid_ahead}
 use Rattle.sweep.specs.declared.faults.Request.{Request}
 use Rattle.sweep.specs.Requests.{pointed}
 use Rattle.sweep.proofs.Indices.{ahead_places, one_place}
-use Rattle.sweep.proofs.Pointing.{Hit, pointed_length, pointed_level, pointed_arc}
+use Rattle.sweep.proofs.Pointing.{Hit, pointed_level, pointed_arc}
 
 module _ (r : Run) (ps : List Pair) where
   -- what the row of the pair q holds, where arcs to the first m rows are pointed

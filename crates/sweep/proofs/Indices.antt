@@ -1,9 +1,7 @@
 -- Pairs by their places among the rows.
-use Rattle.std.proofs.Common.{◌≡◌, ℕ, zero, suc, ◌+◌, ◌<◌, ◌≤◌, ◌⊎◌, List, [], ◌∷◌, ◌++◌, length, Some, None, sym, refl, ap, ◌∙◌, subst, inl, inr, ⊎_elim, arith}
-use mathlib.Core.Path.{subst⁻¹}
+use Rattle.std.proofs.Common.{◌≡◌, ℕ, zero, suc, ◌<◌, List, [], ◌∷◌, ◌++◌, length, Some, refl, ap, subst, arith}
 use Rattle.std.specs.List.{slice_get}
-use Rattle.listing.specs.Members.{In}
-use Rattle.rows.proofs.Breaking.{in_nth, nth_in, nth_bound, nth_same}
+use Rattle.rows.proofs.Breaking.{nth_in}
 use Rattle.pairs.specs.declared.Pair.{Pair}
 use Rattle.pairs.specs.Pairs.{Run, Ahead}
 use Rattle.pairs.specs.Rows.{Ascending}

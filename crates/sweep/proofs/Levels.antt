@@ -1,15 +1,15 @@
 -- Where the records of a level stand, and what a read of one tells.
-use Rattle.std.proofs.Common.{◌≡◌, ℕ, zero, suc, ◌+◌, ◌<◌, ◌≤◌, Bool, true, false, ◌⊎◌, List, [], ◌∷◌, length, Some, None, Option, sym, refl, ap, ◌∙◌, subst, ap₂, inl, inr, ⊎_elim, arith}
+use Rattle.std.proofs.Common.{◌≡◌, ℕ, zero, suc, ◌+◌, ◌<◌, ◌≤◌, Bool, true, false, ◌⊎◌, List, [], ◌∷◌, length, Some, None, Option, sym, refl, ap, ◌∙◌, subst, inl, inr, ⊎_elim, arith}
 use mathlib.Core.Path.{subst⁻¹}
 use Rattle.std.specs.List.{slice_get}
 use Rattle.std.proofs.lemmas.Bool.{cases_eq, eqb-true, cond-true, cond-false}
 use Rattle.listing.specs.declared.Target.{Target}
 use Rattle.listing.specs.declared.Target.TheVariants.{Node, False, True}
 use Rattle.listing.specs.declared.Record.{Record}
-use Rattle.listing.specs.Listing.{node, child, Within, Next, Follows, Numbered, Listing}
+use Rattle.listing.specs.Listing.{child, Within, Follows, Numbered, Listing}
 use Rattle.listing.proofs.Walk.{lev, num}
 use Rattle.listing.proofs.Rules.{ordered, chain}
-use Rattle.rows.proofs.Breaking.{in_nth, nth_in, nth_bound, nth_same}
+use Rattle.rows.proofs.Breaking.{in_nth, nth_bound, nth_same}
 use Rattle.rows.proofs.Finding.{ahead_at}
 use Rattle.pairs.specs.declared.Fixed.{Fixed}
 use Rattle.pairs.specs.Pairs.{leads, on, fixing}

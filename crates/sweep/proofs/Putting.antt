@@ -1,5 +1,5 @@
 -- Putting the arcs of a row.
-use Rattle.std.proofs.Common.{◌≡◌, ℕ, ◌≤◌, Bool, true, false, List, [], ◌∷◌, ◌++◌, length, Ok, Err, Result, ◌∙◌}
+use Rattle.std.proofs.Common.{ℕ, true, false, List, ◌++◌, Ok, Err, Result, ◌∙◌}
 use Rattle.std.specs.List.Sorted.{IsPermutation}
 use Rattle.std.proofs.lemmas.List.Sorted.{IsPermutation-trans, length_permutation}
 use Rattle.queue.specs.declared.Element.{Element}

@@ -1,20 +1,17 @@
 -- When all rows are opened, the rows hold the run's records, arcs naming places.
-use Rattle.std.proofs.Common.{◌≡◌, ℕ, zero, suc, ◌+◌, ◌<◌, ◌≤◌, Bool, true, false, cond, ◌⊎◌, List, [], ◌∷◌, ◌++◌, map, length, get_or, take, Some, None, Option, sym, refl, ap, ◌∙◌, subst, ap₂, inl, inr, ⊎_elim, arith, get_or-take}
-use mathlib.Core.Path.{subst⁻¹}
+use Rattle.std.proofs.Common.{◌≡◌, ℕ, zero, suc, ◌+◌, ◌<◌, ◌≤◌, Bool, true, false, List, [], ◌∷◌, map, length, get_or, take, Some, sym, refl, ap, ◌∙◌, ap₂, ⊎_elim, arith, get_or-take}
 use Rattle.std.specs.List.{slice_get}
 use Rattle.std.proofs.lemmas.Bool.{cases_Bool, cond-true, cond-false}
 use Rattle.std.proofs.lemmas.List.{length-map, length-take-le}
 use Rattle.std.proofs.lemmas.Option.{slice_get-get_or}
-use Rattle.listing.specs.declared.Target.{Target}
-use Rattle.listing.specs.declared.Target.TheVariants.{Node, False, True}
+use Rattle.listing.specs.declared.Target.TheVariants.{Node}
 use Rattle.listing.specs.declared.Record.{Record}
-use Rattle.listing.specs.Members.{In}
-use Rattle.listing.specs.Listing.{node, child}
+use Rattle.listing.specs.Listing.{child}
 use Rattle.listing.proofs.Rules.{Ordered, ordered}
 use Rattle.rows.specs.declared.row.Row.{Row}
 use Rattle.rows.specs.Rows.{no_row, given}
 use Rattle.rows.specs.Marks.{arc}
-use Rattle.rows.specs.Placing.{place_of, placing, place_records, AtPlace}
+use Rattle.rows.specs.Placing.{placing, place_records}
 use Rattle.rows.proofs.Breaking.{in_nth, nth_in, nth_bound, nth_same}
 use Rattle.rows.proofs.Finding.{place_is}
 use Rattle.pairs.specs.declared.Pair.{Pair}

@@ -1,25 +1,23 @@
 -- The stages of a run: what holds when a row is to be opened, and what follows.
-use Rattle.std.proofs.Common.{◌≡◌, ℕ, zero, suc, ◌+◌, ◌<◌, ◌≤◌, Bool, true, false, cond, ◌⊎◌, List, [], ◌∷◌, ◌++◌, length, get_or, take, drop, set, Some, None, sym, refl, ap, ◌∙◌, subst, ap₂, inl, inr, ⊎_elim, arith, drop-set-lt}
+use Rattle.std.proofs.Common.{◌≡◌, ℕ, ◌+◌, ◌<◌, ◌≤◌, Bool, true, false, cond, List, [], ◌∷◌, ◌++◌, length, take, drop, set, Some, None, sym, refl, ap, ◌∙◌, subst, ap₂, inl, ⊎_elim, arith, drop-set-lt}
 use mathlib.Core.Path.{subst⁻¹}
 use Rattle.std.specs.List.Sorted.{IsPermutation}
 use Rattle.std.specs.List.{slice_get, AllByRecursion}
 use Rattle.std.proofs.lemmas.List.{length-set, drop-drop}
 use Rattle.std.proofs.lemmas.Bool.{cases_Bool, cond-true, cond-false}
 use Rattle.listing.specs.declared.Target.{Target}
-use Rattle.listing.specs.declared.Target.TheVariants.{Node, False, True}
+use Rattle.listing.specs.declared.Target.TheVariants.{Node}
 use Rattle.listing.specs.Members.{In}
 use Rattle.listing.specs.Listing.{Within}
 use Rattle.queue.specs.declared.Element.{Element}
-use Rattle.queue.specs.Waiting.{Least}
 use Rattle.rows.specs.declared.row.Row.{Row}
-use Rattle.rows.specs.Rows.{no_row}
 use Rattle.rows.specs.Marks as mark
 use Rattle.rows.proofs.Breaking.{nth_in}
 use Rattle.pairs.specs.declared.Pair.{Pair}
 use Rattle.pairs.specs.declared.keys.PairKey.{PairKey}
 use Rattle.pairs.specs.Keys.{key_of, rank_key}
-use Rattle.pairs.specs.Pairs.{Run, Sides, level, pair_level, kid, start, opens, verdict, Open, Ahead}
-use Rattle.pairs.specs.Rows.{Ascending, Rows, at_root, arc, done, queue-full, Comes, Refuses}
+use Rattle.pairs.specs.Pairs.{Run, Sides, level, kid, start, opens, verdict, Open}
+use Rattle.pairs.specs.Rows.{Ascending, Rows, at_root, arc, queue-full, Comes, Refuses}
 use Rattle.pairs.specs.Records.{terminal, root_of, records_of, name, row, place, Means}
 use Rattle.pairs.proofs.PairOrder.{ahead_level}
 use Rattle.pairs.proofs.Pairs.{fine}
@@ -31,10 +29,9 @@ use Rattle.sweep.specs.declared.faults.Request.{Request}
 use Rattle.sweep.specs.declared.faults.RunFault.{RunFault}
 use Rattle.sweep.specs.declared.faults.RunFault.TheVariants as fault
 use Rattle.sweep.specs.declared.requests.Child.{Child}
-use Rattle.sweep.specs.declared.running.Ran.{Ran}
 use Rattle.sweep.specs.Requests.{request, put_for, Kids, Refused-arc, draft, pointed, Pointed, NextPair}
-use Rattle.sweep.specs.Running.{Hold, ComesOut, Done, Overfull, opened_at, Ends}
-use Rattle.sweep.proofs.Arcs.{element, elements, Orders}
+use Rattle.sweep.specs.Running.{Hold, Done, opened_at, Ends}
+use Rattle.sweep.proofs.Arcs.{elements, Orders}
 use Rattle.sweep.proofs.Going.{Going, Put-on, Next, go_no_row, go_first, go_full, go_put, go_done, go_next, go_on}
 use Rattle.sweep.proofs.Gone.{among_all, waits_row, gone_row, gone_only, gone_all}
 use Rattle.sweep.proofs.Indices.{nth_append}

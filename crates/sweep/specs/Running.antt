@@ -1,18 +1,16 @@
 -- What a run does: its outcome, what the rows hold then, and what a fault leaves.
-use Rattle.std.specs.Prelude.{◌≡◌, ℕ, ◌+◌, ◌-◌, ◌^◌, ◌≤◌, min, Bool, List, [], length, take, drop, Ok, Err, Option, Result}
+use Rattle.std.specs.Prelude.{◌≡◌, ℕ, ◌+◌, ◌-◌, ◌^◌, ◌≤◌, min, List, length, take, drop, Ok, Err, Result}
 use Rattle.listing.specs.declared.Target.{Target}
 use Rattle.listing.specs.declared.Record.{Record}
-use Rattle.queue.specs.declared.Element.{Element}
 use Rattle.queue.specs.declared.Refused.{Refused}
 use Rattle.rows.specs.declared.row.Row.{Row}
-use Rattle.rows.specs.Rows.{given, entry_of}
+use Rattle.rows.specs.Rows.{given}
 use Rattle.rows.specs.Placing.{place_records}
 use Rattle.reduce.specs.Loading.{zeroed}
 use Rattle.pairs.specs.declared.Pair.{Pair}
-use Rattle.pairs.specs.declared.Fixed.{Fixed}
 use Rattle.pairs.specs.declared.keys.PairKey.{PairKey}
 use Rattle.pairs.specs.Keys.{key_of}
-use Rattle.pairs.specs.Pairs.{Side, Run, kid}
+use Rattle.pairs.specs.Pairs.{Run, kid}
 use Rattle.pairs.specs.Rows.{Rows, Outcome, done, no_row, queue-full, Comes, Refuses}
 use Rattle.pairs.specs.Records.{records_of, root_of, Means}
 use Rattle.sweep.specs.declared.faults.Request.{Request}

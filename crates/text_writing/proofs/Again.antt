@@ -8,7 +8,7 @@ use Rattle.listing.specs.declared.Target.{Target}
 use Rattle.listing.specs.declared.Target.TheVariants.{Node, False, True}
 use Rattle.listing.specs.declared.Record.{Record}
 use Rattle.listing.specs.Members.{In}
-use Rattle.listing.specs.Listing.{node, Within, Levelled, Follows, Next, Numbered}
+use Rattle.listing.specs.Listing.{Within, Levelled, Follows, Next, Numbered}
 use Rattle.listing.proofs.Rules.{root_within}
 use Rattle.text.specs.Columns.{digits, numeral, column_of, value_at}
 use Rattle.text.specs.Layout.{width, target_of, record_of, lines_of, facts_of, count_of, root_of, records_of, line_fault, at_line, lines_fault, text_fault}

@@ -1,4 +1,4 @@
-use Rattle.std.proofs.Common.{length, take, sym, refl, ◌∙◌, arith}
+use Rattle.std.proofs.Common.{sym, refl, ◌∙◌, arith}
 use Rattle.std.proofs.lemmas.List.{take_more_same, take_all}
 use Rattle.listing.proofs.comparing.same_records.Goals as goal
 

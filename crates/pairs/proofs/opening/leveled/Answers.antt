@@ -1,5 +1,3 @@
-use Rattle.std.proofs.Common.{ap}
-use Rattle.pairs.specs.declared.keys.PairKey.{PairKey}
 use Rattle.pairs.specs.Pairs.{pair_level}
 use Rattle.pairs.proofs.opening.leveled.Goals as goal
 

@@ -1,4 +1,3 @@
-use Rattle.std.proofs.Common.{length, arith}
 use Rattle.reduce.proofs.Loads.{works_from}
 use Rattle.reduce.proofs.loading.load_rows.Goals as goal
 

@@ -1,4 +1,4 @@
-use Rattle.std.proofs.Common.{map, length, take, sym, ◌∙◌, arith}
+use Rattle.std.proofs.Common.{map, take, sym, ◌∙◌, arith}
 use Rattle.std.proofs.lemmas.Bool.{eqb-true, eqb-false}
 use Rattle.rows.specs.Rows.{entry_of}
 use Rattle.rows.specs.Placing.{placing}

@@ -1,4 +1,4 @@
-use Rattle.std.proofs.Common.{◌≡◌, List, sym, arith}
+use Rattle.std.proofs.Common.{List, arith}
 use mathlib.Core.Path.{subst⁻¹}
 use Rattle.listing.specs.declared.Record.{Record}
 use Rattle.rows.specs.Rows.{given}

@@ -4,7 +4,6 @@ use Rattle.listing.proofs.Rules.{ordered}
 use Rattle.rows.specs.declared.row.Row.{Row}
 use Rattle.rows.specs.Rows.{given, AllInside}
 use Rattle.rows.specs.Marks.{bare}
-use Rattle.rows.specs.Placing.{placed_row}
 use Rattle.rows.proofs.Aiming.{bare_placed, inside_placed, aim_answer, aim_below}
 use Rattle.rows.proofs.Marking.{given_bare}
 use Rattle.rows.proofs.Finding.{given_placed}

@@ -1,4 +1,4 @@
-use Rattle.std.proofs.Common.{sym, arith}
+use Rattle.std.proofs.Common.{arith}
 use Rattle.rows.proofs.Marking.{unmarked_answer}
 use Rattle.rows.proofs.marks.aim_break.Goals as goal
 

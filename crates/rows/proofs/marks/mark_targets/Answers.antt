@@ -1,4 +1,4 @@
-use Rattle.std.proofs.Common.{◌≡◌, true, false, sym, ap, ◌∙◌, arith}
+use Rattle.std.proofs.Common.{true, false, arith}
 use Rattle.rows.proofs.Marking.{marks_start, inside_kept, marks_next}
 use Rattle.rows.proofs.marks.mark_targets.Goals as goal
 

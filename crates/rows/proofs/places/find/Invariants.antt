@@ -1,5 +1,4 @@
 use Rattle.std.proofs.Common.{◌-◌}
-use Rattle.listing.specs.Listing.{Numbered}
 use Rattle.rows.proofs.Finding.{Halved}
 use Rattle.rows.proofs.places.find.Given as goal
 

@@ -1,4 +1,4 @@
-use Rattle.std.proofs.Common.{◌≡◌, ◌+◌, map, length, take, sym, refl, ap, ◌∙◌, arith, below_more}
+use Rattle.std.proofs.Common.{map, sym, ap, ◌∙◌, arith, below_more}
 use Rattle.source.proofs.Places.{nth_within}
 use Rattle.std.proofs.lemmas.List.{take_all}
 use Rattle.rows.specs.Placing.{placed_row}

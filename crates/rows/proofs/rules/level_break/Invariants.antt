@@ -1,4 +1,4 @@
-use Rattle.std.proofs.Common.{◌≡◌, ℕ, ◌<◌}
+use Rattle.std.proofs.Common.{ℕ, ◌<◌}
 use Rattle.rows.specs.Breaks.{TooHigh}
 use Rattle.rows.proofs.rules.level_break.Given as goal
 

@@ -1,4 +1,3 @@
-use Rattle.std.proofs.Common.{◌≡◌, length}
 use Rattle.source.proofs.Levels.{Counts}
 use Rattle.source.proofs.counting.count_levels.Given as goal
 

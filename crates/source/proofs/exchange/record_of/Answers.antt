@@ -1,4 +1,4 @@
-use Rattle.std.proofs.Common.{◌≡◌, Some, None, ap, ◌∙◌}
+use Rattle.std.proofs.Common.{Some, None, ap, ◌∙◌}
 use Rattle.source.specs.Exchange.{exchanged_record}
 use Rattle.source.proofs.Places.{nth_map_at}
 use Rattle.source.proofs.exchange.record_of.Goals as goal

@@ -1,4 +1,4 @@
-use Rattle.std.proofs.Common.{sym, ◌∙◌, arith}
+use Rattle.std.proofs.Common.{arith}
 use Rattle.source.proofs.Places.{nth_within}
 use Rattle.sweep.proofs.Levels.{starts_here, starts_end, passed_more}
 use Rattle.sweep.proofs.reading.level_start.Goals as goal

@@ -1,6 +1,4 @@
-use Rattle.std.proofs.Common.{◌≡◌, ◌<◌, length}
-use Rattle.std.specs.List.{AllByRecursion}
-use Rattle.sweep.specs.Requests.{pointed}
+use Rattle.std.proofs.Common.{◌≡◌, length}
 use Rattle.sweep.proofs.Ties.{Pointing-on}
 use Rattle.sweep.proofs.requests.point_all.Given as goal
 

@@ -1,4 +1,4 @@
-use Rattle.std.proofs.Common.{◌≡◌, ap, ◌∙◌}
+use Rattle.std.proofs.Common.{ap, ◌∙◌}
 use Rattle.pairs.specs.Pairs.{kid, move}
 use Rattle.sweep.specs.Reading.{side_of}
 use Rattle.sweep.proofs.running.child_pair.Goals as goal

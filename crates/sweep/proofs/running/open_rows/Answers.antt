@@ -1,15 +1,14 @@
-use Rattle.std.proofs.Common.{◌≡◌, ℕ, ◌+◌, ◌<◌, ◌≤◌, Bool, true, false, List, [], ◌∷◌, ◌++◌, length, set, is_err, Some, None, Err, sym, refl, ap, ◌∙◌, subst, ap₂, subst₂, arith}
+use Rattle.std.proofs.Common.{◌≡◌, ◌+◌, ◌≤◌, true, false, ◌++◌, length, set, is_err, Err, sym, refl, ap, ◌∙◌, ap₂, subst₂, arith}
 use mathlib.Core.Path.{subst⁻¹}
 use Rattle.std.specs.List.Sorted.{IsPermutation}
 use Rattle.std.proofs.lemmas.Result.{err_from_is_err_and, IfOk-from_err}
-use Rattle.listing.specs.declared.Target.{Target}
 use Rattle.listing.specs.declared.Target.TheVariants.{Node}
 use Rattle.pairs.specs.declared.Pair.{Pair}
 use Rattle.pairs.specs.declared.keys.PairKey.{PairKey}
 use Rattle.pairs.specs.Keys.{key_of}
 use Rattle.pairs.specs.Pairs.{Run, Sides, pair_level, level, start, opens, verdict}
 use Rattle.pairs.specs.Records.{terminal}
-use Rattle.sweep.specs.Requests.{put_for, Kids, Refused-arc, PutArcs}
+use Rattle.sweep.specs.Requests.{put_for, Refused-arc}
 use Rattle.sweep.specs.Running.{run_of, Swept}
 use Rattle.sweep.proofs.Sided.{reads_own, reads_on, ready_from, kids_as, start_as, sides_of}
 use Rattle.sweep.proofs.Stages.{Stage, Mid, none_done, stage_first, stage_within, stage_no_row, stage_full, stage_put, mid_within, mid_done, mid_next}

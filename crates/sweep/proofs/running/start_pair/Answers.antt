@@ -1,4 +1,4 @@
-use Rattle.std.proofs.Common.{◌≡◌, ap, ◌∙◌}
+use Rattle.std.proofs.Common.{ap, ◌∙◌}
 use mathlib.Core.Path.{subst⁻¹}
 use Rattle.listing.specs.Listing.{Within}
 use Rattle.listing.proofs.Rules.{root_within}

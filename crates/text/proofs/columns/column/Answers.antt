@@ -1,4 +1,4 @@
-use Rattle.std.proofs.Common.{◌≡◌, ◌+◌, ◌-◌, ◌≤◌, length, take, drop, sym, ap, ◌∙◌, arith, length-drop, length-take}
+use Rattle.std.proofs.Common.{◌+◌, ◌-◌, length, take, drop, ap, ◌∙◌, arith, length-drop, length-take}
 use Rattle.std.proofs.lemmas.Slice.{between_is}
 use Rattle.text.specs.Columns.{digits}
 use Rattle.text.proofs.Numbers.{numeral_space, numeral_zero, numeral_digits, zero_alone, zero_led, numeral_end, pow_pos_10, below_wider}

@@ -1,4 +1,4 @@
-use Rattle.std.proofs.Common.{◌≡◌, ◌-◌, ◌≤◌, ◌⊎◌, length, get_or, sym, ◌∙◌, inl, inr, ⊎_elim, arith}
+use Rattle.std.proofs.Common.{◌≡◌, ◌-◌, length, get_or, ◌∙◌, inl, inr, ⊎_elim, arith}
 use Rattle.text.proofs.Numbers.{digits_yes, digits_no, digits_end, value_below, pow_8, pow_pos_10}
 use Rattle.text.proofs.columns.digits_of.Goals as goal
 

@@ -1,4 +1,4 @@
-use Rattle.std.proofs.Common.{◌≡◌, ◌+◌, ◌-◌, Some, sym, ap, ◌∙◌, arith}
+use Rattle.std.proofs.Common.{◌≡◌, ◌+◌, ◌-◌, Some, ap, ◌∙◌, arith}
 use Rattle.text.proofs.Lines.{line_some, line_none, feed_yes, feed_no}
 use Rattle.text.proofs.opening.line_fault.Goals as goal
 

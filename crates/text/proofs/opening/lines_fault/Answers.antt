@@ -1,4 +1,4 @@
-use Rattle.std.proofs.Common.{◌≡◌, ◌+◌, ◌-◌, ◌*◌, drop, sym, ap, ◌∙◌, arith}
+use Rattle.std.proofs.Common.{◌+◌, ◌-◌, ◌*◌, drop, ◌∙◌, arith}
 use Rattle.text.proofs.Lines.{lines_some, lines_none, lines_end}
 use Rattle.text.proofs.opening.lines_fault.Goals as goal
 

@@ -1,4 +1,4 @@
-use Rattle.std.proofs.Common.{◌≡◌, ◌-◌, ◌/◌, length, drop, Some, sym, ap, ◌∙◌, arith}
+use Rattle.std.proofs.Common.{◌-◌, ◌/◌, length, drop, Some, ap, ◌∙◌, arith}
 use Rattle.text.proofs.Lines.{nth_line, no_line}
 use Rattle.text.proofs.opening.record_at.Goals as goal
 

@@ -1,4 +1,4 @@
-use Rattle.std.proofs.Common.{◌≡◌, refl}
+use Rattle.std.proofs.Common.{refl}
 use Rattle.text.specs.Opened.{WellFormed}
 use Rattle.text.proofs.Reading.{well_formed, whole_lines}
 use Rattle.text.proofs.opening.text_of.Goals as goal
