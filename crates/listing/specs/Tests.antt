@@ -1,5 +1,5 @@
 -- The rules and the normal form as tests that compute.
-use Rattle.std.specs.Prelude.{ℕ, ◌+◌, Bool, true, false, not, ◌&&◌, ◌||◌, ltb, List, [], ◌∷◌, ◌==◌, nat_lt}
+use Rattle.std.specs.Prelude.{ℕ, ◌+◌, Bool, true, false, not, ◌&&◌, ◌||◌, List, [], ◌∷◌, ◌==◌, nat_lt}
 use Rattle.listing.specs.declared.Target.{Target}
 use Rattle.listing.specs.declared.Target.TheVariants.{Node, False, True}
 use Rattle.listing.specs.declared.Record.{Record}
@@ -44,7 +44,7 @@ rooted t (r ∷ rs) = same_target t (node r)
 
 -- R2
 abbrev pub levelled : ℕ → List Record → Bool
-levelled n rs = every (λ r. ltb r.level n) rs
+levelled n rs = every (λ r. nat_lt r.level n) rs
 
 abbrev pub next : Record → Record → Bool
 next p r = (r.level == p.level && r.number == p.number + 1) || (nat_lt p.level r.level && r.number == 0)

@@ -29,7 +29,7 @@ pub fn normal_text(
     records: &mut [Record],
     output: &mut [u8],
 ) -> Result<usize, NormalFault>
-    ensures { Normalized input.now (record { rows = rows.entry.now; rows_after = rows.exit.now; records = records.old; records_after = records.new }) output.old output.new result }
+    ensures { Normalized input.now (record { rows = rows.old; rows_after = rows.new; records = records.old; records_after = records.new }) output.old output.new result }
 {
     if input.len() > MOST_BYTES {
         return Err(NormalFault::Input);
@@ -52,7 +52,7 @@ pub fn normal_bytes(
     records: &mut [Record],
     output: &mut [u8],
 ) -> Result<usize, WriteFault>
-    ensures { Answered input.now (record { rows = rows.entry.now; rows_after = rows.exit.now; records = records.old; records_after = records.new }) output.old output.new result }
+    ensures { Answered input.now (record { rows = rows.old; rows_after = rows.new; records = records.old; records_after = records.new }) output.old output.new result }
 {
     match normal_text(input, rows, records, output) {
         Ok(len) => Ok(len),

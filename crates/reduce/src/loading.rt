@@ -104,7 +104,7 @@ fn load_admitted<S: Source>(
     requires facts { S.facts source.now ≡ n }
     requires few { length (S.listed source.now) ≤ 65535 }
     requires rows { length (S.listed source.now) ≤ length rows.old }
-    ensures { Loads n (S.facts source.now) (S.top source.now) (S.listed source.now) (record { rows = rows.entry.now; rows_after = rows.exit.now; records = records.old; records_after = records.new }) result }
+    ensures { Loads n (S.facts source.now) (S.top source.now) (S.listed source.now) (record { rows = rows.old; rows_after = rows.new; records = records.old; records_after = records.new }) result }
 {
     let count = source.count();
     load_clearing(source, &mut rows[0..count], records)
@@ -120,7 +120,7 @@ pub fn load<S: Source>(
     rows: &mut [Row],
     records: &mut [Record],
 ) -> Result<Loaded, LoadFault>
-    ensures { Loads n (S.facts source.now) (S.top source.now) (S.listed source.now) (record { rows = rows.entry.now; rows_after = rows.exit.now; records = records.old; records_after = records.new }) result }
+    ensures { Loads n (S.facts source.now) (S.top source.now) (S.listed source.now) (record { rows = rows.old; rows_after = rows.new; records = records.old; records_after = records.new }) result }
 {
     if source.n() != n {
         return Err(LoadFault::Facts);

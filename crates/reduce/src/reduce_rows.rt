@@ -57,7 +57,7 @@ pub struct Reduced {
 /// Reduces rows that are named by their places to the normal listing, which stands in the first rows after.
 /// It is public only for a crate above that made the rows: it asks that they are some, few enough for their numbers, and
 /// by the rules with places for numbers, which that crate proves. What the other rows hold after is left free.
-/// Costs O(N log² N), from the sort of each level.
+/// Costs O(N log N), from the sort of each level.
 pub fn normalize(rows: &mut [Row]) -> Reduced
     requires some { 0 < length rows.old }
     requires small { length rows.old < 2 ^ 32 }
