@@ -1,5 +1,5 @@
 -- What the passes over a level do to rows.
-use Rattle.std.specs.Prelude.{ℕ, ◌+◌, Bool, true, false, cond, not, ◌&&◌, List, [], ◌∷◌, get_or, slice_index_or, slice_set}
+use Rattle.std.specs.Prelude.{ℕ, ◌+◌, Bool, true, false, cond, not, ◌&&◌, List, [], ◌∷◌, slice_index_or, slice_set}
 use Rattle.listing.specs.declared.Target.{Target}
 use Rattle.listing.specs.declared.Target.TheVariants.{Node, False, True}
 use Rattle.listing.specs.declared.Record.{Record}
@@ -14,7 +14,7 @@ kept (r ∷ rs) = cond r.first (entry_of r ∷ kept rs) (kept rs)
 
 -- the image of a target: that of the row at its place
 abbrev pub image_of : List Row → Target → Target
-image_of rows (Node l p) = (get_or rows p no_row).image
+image_of rows (Node l p) = (slice_index_or rows p no_row).image
 image_of rows False = False
 image_of rows True = True
 

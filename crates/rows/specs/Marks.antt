@@ -1,5 +1,5 @@
 -- Rows that arcs name, and their marks.
-use Rattle.std.specs.Prelude.{◌≡◌, ℕ, ◌<◌, Bool, true, false, cond, List, length, get_or, Decides, slice_index_or, slice_set}
+use Rattle.std.specs.Prelude.{◌≡◌, ℕ, ◌<◌, Bool, true, false, cond, List, length, Decides, slice_index_or, slice_set}
 use Rattle.listing.specs.declared.Target.{Target}
 use Rattle.listing.specs.declared.Target.TheVariants.{Node, False, True}
 use Rattle.rows.specs.declared.row.Row.{Row}
@@ -28,7 +28,7 @@ Named rows m k = (j : ℕ) × (j < m) × (b : Bool) × (l : ℕ) × (arc b (slic
 
 -- exactly the places that arcs of the first m of the rows name are marked
 abbrev pub Marks : List Row → ℕ → List Row → Type 0
-Marks rows m after = (k : ℕ) → k < length rows → Decides (get_or after k no_row).first (Named rows m k)
+Marks rows m after = (k : ℕ) → k < length rows → Decides (slice_index_or after k no_row).first (Named rows m k)
 
 -- place k is not the first, and no arc names it
 abbrev pub Unnamed : List Row → ℕ → Type 0
