@@ -1,6 +1,6 @@
 // The value of a listing in the caller's slice.
 
-ghost use Rattle.std.specs.Prelude.{◌≡◌, false, map};
+ghost use Rattle.std.specs.Prelude.{◌≡◌, map};
 ghost use Rattle.listing.specs.Settings.{bit, fact};
 ghost use Rattle.listing.specs.Listing.{value};
 ghost use Rattle.listing.specs.Meaning.{OnlyValue};

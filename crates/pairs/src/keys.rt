@@ -1,7 +1,7 @@
 // The keys by which a queue orders the pairs of a run: by level, then left target, then right target.
 // Targets are compared by one number each, which is in the same order.
 
-ghost use Rattle.std.specs.Prelude.{◌≡◌, IsSomeAnd, Some, refl};
+ghost use Rattle.std.specs.Prelude.{◌≡◌, Some, refl};
 ghost use Rattle.std.specs.Ordering.{is_eq};
 ghost use Rattle.listing.specs.Ranks.{rank_target};
 ghost use Rattle.pairs.specs.Keys.{rank_key, key_total, key_lawful, Weighs};

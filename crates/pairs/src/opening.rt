@@ -1,7 +1,7 @@
 // Levels of pairs, and which pairs are open.
 
-ghost use Rattle.std.specs.Prelude.{◌≡◌, min, Bool, false};
-ghost use Rattle.pairs.specs.Pairs.{answer, depth, pair_level, put, verdict, differ, changes, opens, Told};
+ghost use Rattle.std.specs.Prelude.{◌≡◌, min, false};
+ghost use Rattle.pairs.specs.Pairs.{answer, depth, put, verdict, differ, changes, opens, Told};
 ghost use Rattle.pairs.specs.Keys.{key_of};
 
 use crate::keys::PairKey;

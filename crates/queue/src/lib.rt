@@ -4,7 +4,7 @@
 // Nothing here allocates; a sweep that is written over `Queue` works with every one of them.
 #![tactic(auto)]
 
-ghost use Rattle.std.specs.Prelude.{◌≡◌, ℕ, ◌-◌, ◌^◌, ◌≤◌, min, List, [], length, IsSomeAnd, Some, Option, OnErr, ◌==◌, refl};
+ghost use Rattle.std.specs.Prelude.{◌≡◌, ℕ, ◌-◌, ◌^◌, ◌≤◌, min, List, [], length, Some, Option, OnErr, ◌==◌, refl};
 ghost use Rattle.std.specs.declared.cmp.Ordering.{Ordering};
 ghost use Rattle.std.specs.Ordering.{is_eq, is_gt, nat_cmp};
 ghost use Rattle.queue.specs.Rank.{Lawful, unsigned_lawful};

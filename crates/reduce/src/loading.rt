@@ -5,7 +5,6 @@ ghost use Rattle.std.specs.Prelude.{◌≡◌, ◌^◌, ◌<◌, ◌≤◌, ◌+
 ghost use Rattle.listing.specs.Listing.{Listing};
 ghost use Rattle.reduce.specs.declared.faults.LoadFault.TheVariants as fault;
 ghost use Rattle.rows.specs.Rows.{zero_row, given, entry_of};
-ghost use Rattle.rows.specs.Breaks.{Broken};
 ghost use Rattle.reduce.specs.Contract.{Normalizes};
 ghost use Rattle.rows.specs.Placing.{place_records};
 ghost use Rattle.reduce.specs.Loading.{Works, Loads};

@@ -1,9 +1,9 @@
 // The places of a source's nodes: where records stand in order, a node is found by halving.
 // With them rows are filled whose arcs name places, which reduction takes; that tries the fourth rule.
 
-ghost use Rattle.std.specs.Prelude.{◌≡◌, ◌^◌, ◌<◌, ◌≤◌, map, length, IfSome, MatchOption};
+ghost use Rattle.std.specs.Prelude.{◌≡◌, ◌^◌, ◌<◌, map, length, IfSome, MatchOption};
 ghost use Rattle.listing.specs.declared.Target.TheVariants.{Node};
-ghost use Rattle.listing.specs.Listing.{Within, Above, Numbered, Targeted};
+ghost use Rattle.listing.specs.Listing.{Within, Numbered, Targeted};
 ghost use Rattle.rows.specs.Breaks.{First, Mistargeted};
 ghost use Rattle.rows.specs.Placing.{placing, placed_row, AtPlace, KeptTarget, KeptTargets};
 

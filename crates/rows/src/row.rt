@@ -1,4 +1,4 @@
-ghost use Rattle.std.specs.Prelude.{◌≡◌, ◌&&◌, IsSomeAnd, Some, refl};
+ghost use Rattle.std.specs.Prelude.{◌≡◌, Some, refl};
 ghost use Rattle.listing.specs.Tests.{same_target};
 ghost use Rattle.listing.specs.Ranks.{rank_target};
 ghost use Rattle.rows.specs.Rows.{entry_of, like};

@@ -1,10 +1,10 @@
 // The arcs of rows: put into the queue as requests, taken again, and pointed at rows.
 
-ghost use Rattle.std.specs.Prelude.{◌≡◌, ◌^◌, ◌<◌, length};
+ghost use Rattle.std.specs.Prelude.{◌≡◌, ◌<◌, length};
 ghost use Rattle.std.specs.List.{AllByRecursion};
 ghost use Rattle.listing.specs.declared.Target.TheVariants.{Node};
 ghost use Rattle.queue.specs.Rank.{UpTo};
-ghost use Rattle.pairs.specs.Pairs.{opens, verdict};
+ghost use Rattle.pairs.specs.Pairs.{opens};
 ghost use Rattle.pairs.specs.Records.{terminal};
 ghost use Rattle.sweep.specs.Requests.{PutArc, PutArcs, draft, point, Pointed, NextPair};
 
