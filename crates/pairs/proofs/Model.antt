@@ -2,7 +2,7 @@
 use Rattle.std.proofs.Common.{◌≡◌, ℕ, zero, suc, cond, ltb, List, [], ◌∷◌, ◌++◌, length, take, filter}
 use Rattle.pairs.specs.declared.Pair.{Pair}
 use Rattle.pairs.specs.Pairs.{Run, Sides, start, opens, ahead}
-use Rattle.pairs.specs.Rows.{Rows, Arc, arcs, Outcome, done, no_row, queue-full, Comes}
+use Rattle.pairs.specs.Rows.{Rows, Arc, arcs, Outcome, done, no_row, queue_full, Comes}
 
 -- the least of p and the pairs that arcs wait for
 unfoldable pub least : Run → Pair → List Arc → Pair
@@ -30,7 +30,7 @@ enter r capacity (suc left) xs p ws =
     let ys = xs ++ (p ∷ []) in
     let vs = ws ++ arcs r (length xs) (p ∷ []) in
     let go = next r (λ q us. enter r capacity left ys q us) (record { rows = ys; came = done }) vs in
-    cond (ltb capacity (length vs)) (record { rows = ys; came = queue-full (length xs) }) go
+    cond (ltb capacity (length vs)) (record { rows = ys; came = queue_full (length xs) }) go
 
 -- the whole run
 unfoldable pub sweep : Run → ℕ → ℕ → Result

@@ -6,7 +6,7 @@ use Rattle.std.proofs.lemmas.Bool.{cases_eq, cond_both, ltb-true, ltb-false}
 use Rattle.pairs.specs.declared.Pair.{Pair}
 use Rattle.listing.specs.Members.{In}
 use Rattle.pairs.specs.Pairs.{Run, Sides, start, opens, Open, Ahead}
-use Rattle.pairs.specs.Rows.{Ascending, Reached, at_root, by_arc, Rows, Arc, arcs, beyond, waiting, cut, done, queue-full, Fits, Comes}
+use Rattle.pairs.specs.Rows.{Ascending, Reached, at_root, by_arc, Rows, Arc, arcs, beyond, waiting, cut, done, queue_full, Fits, Comes}
 use Rattle.pairs.proofs.Model.{least, later, Result, next, enter, sweep, ModelRight}
 use Rattle.pairs.proofs.PairOrder.{irr, trans}
 use Rattle.pairs.proofs.Pairs.{kid_ahead}
@@ -129,7 +129,7 @@ module _ (r : Run) (ok : Sides r) (ps : List Pair) (w : Rows r ps) where
         cuts : cut r ps (length xs) ≡ length vs
         cuts = cut_is xs p zs split ∙ ap length waits
 
-        full : ltb capacity (length vs) ≡ true → Right (record { rows = ys; came = queue-full (length xs) })
+        full : ltb capacity (length vs) ≡ true → Right (record { rows = ys; came = queue_full (length xs) })
         full e =
             ((long xs p zs v.rows, v.fits, (let f = v.free in omega arith), omega (arith, cuts, ltb-true capacity (length vs) e)), front ys zs split, (λ f. let z : ◌≡◌ {A = ℕ} 0 1 = cc in absurd (omega arith)))
 

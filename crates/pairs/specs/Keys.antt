@@ -6,7 +6,7 @@ use Rattle.std.specs.Ordering.{ordering_then, nat_cmp}
 use Rattle.listing.specs.declared.Target.{Target}
 use Rattle.listing.specs.declared.Target.TheVariants.{Node, False, True}
 use Rattle.listing.specs.Ranks.{rank_target, target_total}
-use Rattle.queue.specs.Rank.{Lawful}
+use Rattle.queue.specs.Rank.{Lawful, lawful_from_total}
 use Rattle.pairs.specs.declared.Pair.{Pair}
 use Rattle.pairs.specs.declared.keys.PairKey.{PairKey}
 use Rattle.pairs.specs.Pairs.{pair_level}
@@ -24,7 +24,7 @@ pub key_total : IsTotalOrder rank_key
 key_total = then_total (on_total (λ (x : PairKey). x.level) nat_cmp_total) (then_total (on_total (λ (x : PairKey). x.pair.left) target_total) (on_total (λ (x : PairKey). x.pair.right) target_total))
 
 pub key_lawful : Lawful rank_key
-key_lawful = record { flip = key_total.antisymm; trans = key_total.trans; alike = key_total.congr }
+key_lawful = lawful_from_total key_total
 
 -- w is the target's number: those of nodes are by level and number, that of False is larger, that of True largest
 abbrev pub Weighs : Target → ℕ → Type 0

@@ -52,7 +52,7 @@ cut r ps k = length (waiting r (take (suc k) ps))
 -- how a run comes out: done, or row space lacks for a row, or the queue is full at a row
 pub data Outcome : Type 0 where
   done : Outcome
-  no_row queue-full : ℕ → Outcome
+  no_row queue_full : ℕ → Outcome
 
 -- there is space for row k, and the cut after it fits the queue
 abbrev pub Fits : Run → List Pair → ℕ → ℕ → ℕ → Type 0
@@ -63,7 +63,7 @@ Fits r ps space capacity k = (k < space) × (cut r ps k ≤ capacity)
 abbrev pub Comes : Run → List Pair → ℕ → ℕ → Outcome → Type 0
 Comes r ps space capacity done = (k : ℕ) → k < length ps → Fits r ps space capacity k
 Comes r ps space capacity (no_row k) = (k < length ps) × ((j : ℕ) → j < k → Fits r ps space capacity j) × (space ≤ k)
-Comes r ps space capacity (queue-full k) = (k < length ps) × ((j : ℕ) → j < k → Fits r ps space capacity j) × (k < space) × (capacity < cut r ps k)
+Comes r ps space capacity (queue_full k) = (k < length ps) × ((j : ℕ) → j < k → Fits r ps space capacity j) × (k < space) × (capacity < cut r ps k)
 
 -- how many arcs from the rows before row k, which is p, lead to open pairs beyond it
 unfoldable pub passing : Run → List Pair → ℕ → Pair → ℕ

@@ -6,7 +6,7 @@ use Rattle.listing.specs.declared.Record.{Record}
 use Rattle.pairs.specs.declared.Pair.{Pair}
 use Rattle.pairs.specs.declared.Fixed.{Fixed}
 use Rattle.pairs.specs.Pairs.{answer, Run, Side}
-use Rattle.pairs.specs.Rows.{Rows, done, no_row, queue-full, Comes}
+use Rattle.pairs.specs.Rows.{Rows, done, no_row, queue_full, Comes}
 use Rattle.pairs.specs.Records.{records_of, root_of}
 
 abbrev pub rec : ℕ → ℕ → Target → Target → Record
@@ -47,7 +47,7 @@ pub record JustOne (ps : List Pair) : Type 0 where
   pub rows : Rows (of_facts 0 1 6 None) ps
   pub records : records_of (of_facts 0 1 6 None) ps ≡ rec 0 0 (Node 1 0) (Node 1 1) ∷ rec 1 0 False True ∷ rec 1 1 True False ∷ []
   pub root : root_of (of_facts 0 1 6 None) ps ≡ Node 0 0
-  pub tight : Comes (of_facts 0 1 6 None) ps 2 1 (queue-full 0)
+  pub tight : Comes (of_facts 0 1 6 None) ps 2 1 (queue_full 0)
   pub short : Comes (of_facts 0 1 6 None) ps 2 2 (no_row 2)
   pub passes : Comes (of_facts 0 1 6 None) ps 3 2 done
 

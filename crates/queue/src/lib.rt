@@ -2,6 +2,7 @@
 // of its own.
 // A queue's meaning is the bag of waiting elements, a fixed capacity, and the next element, one of the least.
 // Nothing here allocates; a sweep that is written over `Queue` works with every one of them.
+
 #![tactic(auto)]
 
 ghost use Rattle.std.specs.Prelude.{◌≡◌, ℕ, ◌-◌, ◌^◌, ◌≤◌, min, List, [], length, Some, Option, OnErr, ◌==◌, refl};

@@ -1,5 +1,6 @@
 // A slot in front of a queue: it holds one element, which comes after none that waits below, and adds one to the capacity.
 // So what is put as the least and taken before a lesser one comes never goes below. A front slot is a queue: slots stack.
+
 #![tactic(auto)]
 
 ghost use Rattle.std.specs.Prelude.{◌≡◌, ◌+◌, if◌then◌else◌, None};

@@ -286,7 +286,7 @@ over_number b D0 m k o = omega (arith, placed_le b (given b D0) (given_placed b 
     number_of False = 0
     number_of True = 0
 
-module _ (l a b : ℕ) (F B D D0 S : List Row) (la : length F ≡ a) (lb : a + length B ≡ b) (im : Target → Target) (im-is : im ≡ image_of (F ++ (B ++ D)))
+module _ (l a b : ℕ) (F B D D0 S : List Row) (la : length F ≡ a) (lb : a + length B ≡ b) (im : Target → Target) (im_is : im ≡ image_of (F ++ (B ++ D)))
     (sh : IsPermutation (move_rows im a B) S) (up : Ascending S) (lev : (x : Record) → In x (given a B) → x.level ≡ l)
     (cx : Chain (given b D0)) (high : (x : Record) → In x (given b D0) → l < x.level)
     (lows : (x : Record) → In x (given a B) → Within (given b D0) x.low) (highs : (x : Record) → In x (given a B) → Within (given b D0) x.high) where
@@ -320,9 +320,9 @@ module _ (l a b : ℕ) (F B D D0 S : List Row) (la : length F ≡ a) (lb : a + l
       write_apart Q M p (λ t m e. omega (arith, (own_from t m).1)) ∙ ap (λ (r : Row). r.image) (beyond M B p length_M (omega (arith, length_M)))
 
   same : (t : Target) → Within (given b D0) t → image_of Q' t ≡ im t
-  same (Node m k) o = same_at k (over_number b D0 m k o) ∙ ap (λ (f : Target → Target). f (Node m k)) (sym im-is)
-  same False o = ap (λ (f : Target → Target). f False) (sym im-is)
-  same True o = ap (λ (f : Target → Target). f True) (sym im-is)
+  same (Node m k) o = same_at k (over_number b D0 m k o) ∙ ap (λ (f : Target → Target). f (Node m k)) (sym im_is)
+  same False o = ap (λ (f : Target → Target). f False) (sym im_is)
+  same True o = ap (λ (f : Target → Target). f True) (sym im_is)
 
   wrote : (t : Row) → On t M → image_of Q' (Node l t.own) ≡ outcome t
   wrote t m =

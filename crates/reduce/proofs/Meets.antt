@@ -71,11 +71,11 @@ rooted_aimed root (q ∷ ys) o w cy hit =
           (λ p m d. omega (arith, o.0 p m, node_level p q (d ∙ e), node_number p q (d ∙ e))) o.1,
     )
 
-module _ (ys : List Record) (im : Target → Target) (im-false : im False ≡ False) (im-true : im True ≡ True) where
+module _ (ys : List Record) (im : Target → Target) (im_false : im False ≡ False) (im_true : im True ≡ True) where
   image_over : (xs : List Record) → Chain xs → ((r : Record) → In r xs → Replaced im ys r) → (t : Target) → Within xs t → Within ys (im t)
   image_over [] ch h (Node a i) o = absurd o.1
-  image_over [] ch h False o = subst⁻¹ (Within ys) im-false tt
-  image_over [] ch h True o = subst⁻¹ (Within ys) im-true tt
+  image_over [] ch h False o = subst⁻¹ (Within ys) im_false tt
+  image_over [] ch h True o = subst⁻¹ (Within ys) im_true tt
   image_over (r ∷ xs) ch h t o = by (image_over xs ch.3 (λ q m. h q (inr m))) (strip r xs t o)
     where
       here : ((u : Target) → Within xs u → Within ys (im u)) → Replaced im ys r → Within ys (im (node r))
@@ -88,8 +88,8 @@ module _ (ys : List Record) (im : Target → Target) (im-false : im False ≡ Fa
 
   image_above : (xs : List Record) → Chain xs → ((r : Record) → In r xs → Replaced im ys r) → (l : ℕ) (t : Target) → Within xs t → Above l t → Above l (im t)
   image_above [] ch h l (Node a i) o a' = absurd o.1
-  image_above [] ch h l False o a' = subst⁻¹ (Above l) im-false tt
-  image_above [] ch h l True o a' = subst⁻¹ (Above l) im-true tt
+  image_above [] ch h l False o a' = subst⁻¹ (Above l) im_false tt
+  image_above [] ch h l True o a' = subst⁻¹ (Above l) im_true tt
   image_above (r ∷ xs) ch h l t o a = by (image_above xs ch.3 (λ q m. h q (inr m)) l) (strip r xs t o)
     where
       here : ((u : Target) → Within xs u → Above l u → Above l (im u)) → l < r.level → Replaced im ys r → Above l (im (node r))
@@ -102,8 +102,8 @@ module _ (ys : List Record) (im : Target → Target) (im-false : im False ≡ Fa
 
   pub image_same : Chain ys → (xs : List Record) → Chain xs → ((r : Record) → In r xs → Replaced im ys r) → (t : Target) → Within xs t → (s : Choice) → walk ys s (im t) ≡ walk xs s t
   image_same cy [] ch h (Node a i) o s = absurd o.1
-  image_same cy [] ch h False o s = ap (walk ys s) im-false ∙ walk_false ys s
-  image_same cy [] ch h True o s = ap (walk ys s) im-true ∙ walk_true ys s
+  image_same cy [] ch h False o s = ap (walk ys s) im_false ∙ walk_false ys s
+  image_same cy [] ch h True o s = ap (walk ys s) im_true ∙ walk_true ys s
   image_same cy (r ∷ xs) ch h t o s = by (λ u k. image_same cy xs ch.3 (λ q m. h q (inr m)) u k s) (strip r xs t o)
     where
       b : Bool

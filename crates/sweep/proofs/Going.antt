@@ -10,7 +10,7 @@ use Rattle.std.proofs.lemmas.List.Elements.{filter-append}
 use Rattle.pairs.specs.declared.Pair.{Pair}
 use Rattle.listing.specs.Members.{In}
 use Rattle.pairs.specs.Pairs.{Run, Sides, kid, start, opens, Open, ahead, Ahead}
-use Rattle.pairs.specs.Rows.{Ascending, Reached, at_root, Rows, Arc, arc, arcs, waiting, cut, passing, put_before, Refuses, done, no_row, queue-full, Fits, Comes}
+use Rattle.pairs.specs.Rows.{Ascending, Reached, at_root, Rows, Arc, arc, arcs, waiting, cut, passing, put_before, Refuses, done, no_row, queue_full, Fits, Comes}
 use Rattle.pairs.proofs.Model.{later}
 use Rattle.pairs.proofs.PairOrder.{irr, not_self}
 use Rattle.pairs.proofs.RowsList.{split_left, head_start}
@@ -38,7 +38,7 @@ module _ {K : Type 0} (r : Run) (keyed : Pair → K) (ps : List Pair) (space roo
     pub from : In (start r) (xs ++ (p ∷ []))
 
   -- k rows ys are opened and their arcs put, where ws waits
-  pub record Put-on (k : ℕ) (ys : List Pair) (ws : List (Element K Request)) : Type 0 where
+  pub record PutOn (k : ℕ) (ys : List Pair) (ws : List (Element K Request)) : Type 0 where
     pub others : List Pair
     pub rows : ps ≡ ys ++ others
     pub count : length ys ≡ k
@@ -108,7 +108,7 @@ module _ {K : Type 0} (r : Run) (keyed : Pair → K) (ps : List Pair) (space roo
           sym (length-map (later r p (waiting r xs)) (element keyed)) ∙ sym (bag_length ws _ v.bag)
 
       -- arc b of row k finds no room
-      pub go_full : k < space → (b : Bool) → Open r (kid r b p) → room ≡ length (cond b (elements keyed (arc r k p false)) [] ++ ws) → Comes r ps space room (queue-full k) × Refuses r ps room k p b
+      pub go_full : k < space → (b : Bool) → Open r (kid r b p) → room ≡ length (cond b (elements keyed (arc r k p false)) [] ++ ws) → Comes r ps space room (queue_full k) × Refuses r ps room k p b
       unfolding put_before
       go_full l true o h =
           let n : room ≡ length (arc r k p false) + length ws = h ∙ sized false ws in (
@@ -121,7 +121,7 @@ module _ {K : Type 0} (r : Run) (keyed : Pair → K) (ps : List Pair) (space roo
       )
 
       -- both arcs of row k are put
-      pub go_put : k < space → (vs : List (Element K Request)) → length vs ≤ room → IsPermutation (elements keyed (arc r k p true) ++ (elements keyed (arc r k p false) ++ ws)) vs → Put-on (k + 1) (xs ++ (p ∷ [])) vs
+      pub go_put : k < space → (vs : List (Element K Request)) → length vs ≤ room → IsPermutation (elements keyed (arc r k p true) ++ (elements keyed (arc r k p false) ++ ws)) vs → PutOn (k + 1) (xs ++ (p ∷ [])) vs
       go_put l vs m s =
           let low = elements keyed (arc r k p false) in
           let high = elements keyed (arc r k p true) in
@@ -161,7 +161,7 @@ no_arcs : (ws : List Arc) → length ws ≡ 0 → ws ≡ []
 no_arcs [] e = refl
 no_arcs (a ∷ ws) e = absurd (omega arith)
 
-module _ {K : Type 0} (r : Run) (keyed : Pair → K) (ps : List Pair) (space room : ℕ) (ok : Sides r) (w : Rows r ps) (k : ℕ) (ys : List Pair) (ws : List (Element K Request)) (v : Put-on r keyed ps space room k ys ws) where
+module _ {K : Type 0} (r : Run) (keyed : Pair → K) (ps : List Pair) (space room : ℕ) (ok : Sides r) (w : Rows r ps) (k : ℕ) (ys : List Pair) (ws : List (Element K Request)) (v : PutOn r keyed ps space room k ys ws) where
   -- none waits: all rows are opened
   pub go_done : ws ≡ [] → Comes r ps space room done × (ys ≡ ps)
   go_done e =

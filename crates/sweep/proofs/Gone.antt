@@ -20,7 +20,7 @@ use Rattle.sweep.proofs.Arcs.{element, Orders}
 use Rattle.sweep.proofs.Bags.{shuffled_bag, all_among, among_map, map_among}
 use Rattle.sweep.proofs.Ties.{Drained}
 use Rattle.sweep.proofs.Pointing.{Hit}
-use Rattle.sweep.proofs.Going.{Put-on, Next, tie_same, self_ties}
+use Rattle.sweep.proofs.Going.{PutOn, Next, tie_same, self_ties}
 
 -- a front's places are the list's
 nth_left : {X : Type 0} (xs ys : List X) (i : ℕ) (x : X) → slice_get xs i ≡ Some x → slice_get (xs ++ ys) i ≡ Some x
@@ -92,7 +92,7 @@ module _ (r : Run) where
       among_right (arc r k x false) _ _ (among_right (arc r k x true) _ _
       (subst (λ n. In (record { row = n; high = b; to = kid r b q }) (arcs r (suc k) xs)) (let z : suc k + i ≡ k + suc i = omega arith in z) (parent_arc (suc k) xs i q b e o)))
 
-module _ {K : Type 0} (r : Run) (keyed : Pair → K) (ps : List Pair) (space room : ℕ) (ok : Sides r) (w : Rows r ps) (k : ℕ) (ys : List Pair) (ws : List (Element K Request)) (v : Put-on r keyed ps space room k ys ws) where
+module _ {K : Type 0} (r : Run) (keyed : Pair → K) (ps : List Pair) (space room : ℕ) (ok : Sides r) (w : Rows r ps) (k : ℕ) (ys : List Pair) (ws : List (Element K Request)) (v : PutOn r keyed ps space room k ys ws) where
   -- what waits is an arc of a row
   record Waits (y : Element K Request) : Type 0 where
     from : Arc

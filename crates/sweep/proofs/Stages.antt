@@ -17,7 +17,7 @@ use Rattle.pairs.specs.declared.Pair.{Pair}
 use Rattle.pairs.specs.declared.keys.PairKey.{PairKey}
 use Rattle.pairs.specs.Keys.{key_of, rank_key}
 use Rattle.pairs.specs.Pairs.{Run, Sides, level, kid, start, opens, verdict, Open}
-use Rattle.pairs.specs.Rows.{Ascending, Rows, at_root, arc, queue-full, Comes, Refuses}
+use Rattle.pairs.specs.Rows.{Ascending, Rows, at_root, arc, queue_full, Comes, Refuses}
 use Rattle.pairs.specs.Records.{terminal, root_of, records_of, name, row, place, Means}
 use Rattle.pairs.proofs.PairOrder.{ahead_level}
 use Rattle.pairs.proofs.Pairs.{fine}
@@ -29,10 +29,10 @@ use Rattle.sweep.specs.declared.faults.Request.{Request}
 use Rattle.sweep.specs.declared.faults.RunFault.{RunFault}
 use Rattle.sweep.specs.declared.faults.RunFault.TheVariants as fault
 use Rattle.sweep.specs.declared.requests.Child.{Child}
-use Rattle.sweep.specs.Requests.{request, put_for, Kids, Refused-arc, draft, pointed, Pointed, NextPair}
+use Rattle.sweep.specs.Requests.{request, put_for, Kids, RefusedArc, draft, pointed, Pointed, NextPair}
 use Rattle.sweep.specs.Running.{Hold, Done, opened_at, Ends}
 use Rattle.sweep.proofs.Arcs.{elements, Orders}
-use Rattle.sweep.proofs.Going.{Going, Put-on, Next, go_no_row, go_first, go_full, go_put, go_done, go_next, go_on}
+use Rattle.sweep.proofs.Going.{Going, PutOn, Next, go_no_row, go_first, go_full, go_put, go_done, go_next, go_on}
 use Rattle.sweep.proofs.Gone.{among_all, waits_row, gone_row, gone_only, gone_all}
 use Rattle.sweep.proofs.Indices.{nth_append}
 use Rattle.sweep.proofs.Pointing.{pointed_length, pointed_behind}
@@ -59,7 +59,7 @@ pub record Mid (r : Run) (space room : ℕ) (before : List Row) (k l : ℕ) (row
   pub pairs : List Pair
   pub are : Rows r pairs
   pub front : List Pair
-  pub put : Put-on r (Keyed r) pairs space room k front ws
+  pub put : PutOn r (Keyed r) pairs space room k front ws
   pub holds : Holding r pairs k k rows
   pub size : length rows ≡ space
   pub bound : k ≤ space
@@ -161,7 +161,7 @@ module _ (r : Run) (ok : Sides r) (space room : ℕ) (before : List Row) (len : 
       high_put = put_is r k p true high kids.high_pair kids.high_open
 
       -- an arc of it finds no room
-      pub stage_full : (new : Row) (f : RunFault) → Refused-arc room r.facts k low high ws f → Ends r space room f × (opened_at f ≤ length before) × (drop (opened_at f) (set rows k new) ≡ drop (opened_at f) before)
+      pub stage_full : (new : Row) (f : RunFault) → RefusedArc room r.facts k low high ws f → Ends r space room f × (opened_at f ≤ length before) × (drop (opened_at f) (set rows k new) ≡ drop (opened_at f) before)
       stage_full new f a =
           subst⁻¹ (λ (x : RunFault). Ends r space room x × (opened_at x ≤ length before) × (drop (opened_at x) (set rows k new) ≡ drop (opened_at x) before)) a.is (
             record {
@@ -174,7 +174,7 @@ module _ (r : Run) (ok : Sides r) (space room : ℕ) (before : List Row) (len : 
             drop-set-lt (k + 1) rows k new (omega arith) ∙ drop_one k rows before s.rest,
           )
         where
-          g : Comes r s.pairs space room (queue-full k) × Refuses r s.pairs room k p a.side
+          g : Comes r s.pairs space room (queue_full k) × Refuses r s.pairs room k p a.side
           g =
               go_full r (Keyed r) s.pairs space room ok s.are k s.front p ws s.going l a.side (child_open a.side a.wanted)
               (a.full ∙ ap (λ x. length (cond a.side x [] ++ ws)) low_put)

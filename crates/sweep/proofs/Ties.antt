@@ -55,15 +55,15 @@ pub record Drained {K V : Type 0} (rank : K → K → Ordering) (key : K) (xs ys
 
 module _ {K V : Type 0} (rank : K → K → Ordering) (key : K) where
   -- what is gone so far
-  pub record Going-on (xs ys : List (Element K V)) : Type 0 where
+  pub record GoingOn (xs ys : List (Element K V)) : Type 0 where
     pub gone : List (Element K V)
     pub ties : AllByRecursion (λ y. is_eq (rank y.key key) ≡ true) gone
     pub rest : IsPermutation xs (gone ++ ys)
 
-  pub on_none : (xs : List (Element K V)) → Going-on xs xs
+  pub on_none : (xs : List (Element K V)) → GoingOn xs xs
   on_none xs = record { gone = []; ties = tt; rest = IsPermutation-refl xs }
 
-  pub on_more : (xs ys zs : List (Element K V)) (e : Element K V) → Going-on xs ys → is_eq (rank e.key key) ≡ true → IsPermutation ys (e ∷ zs) → Going-on xs zs
+  pub on_more : (xs ys zs : List (Element K V)) (e : Element K V) → GoingOn xs ys → is_eq (rank e.key key) ≡ true → IsPermutation ys (e ∷ zs) → GoingOn xs zs
   on_more xs ys zs e d tie s =
       record {
         gone = e ∷ d.gone;
@@ -72,33 +72,33 @@ module _ {K V : Type 0} (rank : K → K → Ordering) (key : K) where
             (IsPermutation-trans (d.gone ++ ys) (d.gone ++ e ∷ zs) (e ∷ (d.gone ++ zs)) (shuffled_after d.gone ys (e ∷ zs) s) (IsPermutation-sym (e ∷ (d.gone ++ zs)) (d.gone ++ e ∷ zs) (shuffled_middle d.gone zs e)));
       }
 
-  pub on_end : Lawful rank → (xs ys : List (Element K V)) (e : Element K V) → AllByRecursion (λ y. UpTo rank key y.key) xs → Going-on xs ys → AllByRecursion (λ y. UpTo rank e.key y.key) ys → UpTo rank key e.key → is_eq (rank e.key key) ≡ false → Drained rank key xs ys
+  pub on_end : Lawful rank → (xs ys : List (Element K V)) (e : Element K V) → AllByRecursion (λ y. UpTo rank key y.key) xs → GoingOn xs ys → AllByRecursion (λ y. UpTo rank e.key y.key) ys → UpTo rank key e.key → is_eq (rank e.key key) ≡ false → Drained rank key xs ys
   on_end law xs ys e low d h u c =
       record { gone = d.gone; ties = d.ties; rest = d.rest; apart = All-weaker (λ (y : Element K V). UpTo rank e.key y.key) (λ (y : Element K V). is_eq (rank y.key key) ≡ false) (λ y a. tie_not rank law key e.key y.key a u c) ys h }
 
-  pub on_empty : (xs ys : List (Element K V)) → Going-on xs ys → ys ≡ [] → Drained rank key xs ys
+  pub on_empty : (xs ys : List (Element K V)) → GoingOn xs ys → ys ≡ [] → Drained rank key xs ys
   on_empty xs ys d e = record { gone = d.gone; ties = d.ties; rest = d.rest; apart = subst⁻¹ (AllByRecursion (λ y. is_eq (rank y.key key) ≡ false)) e tt }
 
   -- what is left is not before the key
-  pub on_low : (xs ys : List (Element K V)) → AllByRecursion (λ y. UpTo rank key y.key) xs → Going-on xs ys → AllByRecursion (λ y. UpTo rank key y.key) ys
+  pub on_low : (xs ys : List (Element K V)) → AllByRecursion (λ y. UpTo rank key y.key) xs → GoingOn xs ys → AllByRecursion (λ y. UpTo rank key y.key) ys
   on_low xs ys low d = all_right (λ (y : Element K V). UpTo rank key y.key) d.gone ys (all_shuffled (λ (y : Element K V). UpTo rank key y.key) xs (d.gone ++ ys) d.rest low)
 
   -- what holds of each, holds of each that is left
-  pub on_all : (P : Element K V → Type 0) (xs ys : List (Element K V)) → AllByRecursion P xs → Going-on xs ys → AllByRecursion P ys
+  pub on_all : (P : Element K V → Type 0) (xs ys : List (Element K V)) → AllByRecursion P xs → GoingOn xs ys → AllByRecursion P ys
   on_all P xs ys low d = all_right P d.gone ys (all_shuffled P xs (d.gone ++ ys) d.rest low)
 
 module _ {K : Type 0} (rank : K → K → Ordering) (key : K) (t : Target) where
   -- what is gone so far, its arcs set
-  pub record Pointing-on (xs ys : List (Element K Request)) (before after : List Row) : Type 0 where
-    pub base : Going-on rank key xs ys
+  pub record PointingOn (xs ys : List (Element K Request)) (before after : List Row) : Type 0 where
+    pub base : GoingOn rank key xs ys
     pub rows : after ≡ pointed t base.gone before
 
-  pub pointing_none : (xs : List (Element K Request)) (before : List Row) → Pointing-on xs xs before before
+  pub pointing_none : (xs : List (Element K Request)) (before : List Row) → PointingOn xs xs before before
   unfolding on_none
   pointing_none xs before = record { base = on_none rank key xs; rows = refl }
 
-  pub pointing_more : (xs ys zs : List (Element K Request)) (e : Element K Request) (before rows : List Row) (d : Row) → Pointing-on xs ys before rows → is_eq (rank e.key key) ≡ true → IsPermutation ys (e ∷ zs) →
-      d ≡ point t e.carried.high (get_or rows e.carried.row no_row) → Pointing-on xs zs before (set rows e.carried.row d)
+  pub pointing_more : (xs ys zs : List (Element K Request)) (e : Element K Request) (before rows : List Row) (d : Row) → PointingOn xs ys before rows → is_eq (rank e.key key) ≡ true → IsPermutation ys (e ∷ zs) →
+      d ≡ point t e.carried.high (get_or rows e.carried.row no_row) → PointingOn xs zs before (set rows e.carried.row d)
   unfolding on_more
   pointing_more xs ys zs e before rows d p tie s f =
       record {

@@ -41,7 +41,7 @@ PutArc room n row b c xs ys (Ok u) = (length ys ≤ room) × IsPermutation (put_
 PutArc room n row b c xs ys (Err f) = (c.«open» ≡ true) × (room ≡ length xs) × (f ≡ Full (record { element = request n row b c.pair }))
 
 -- both arcs of a row are put, low first, or one of them finds no room
-pub record Refused-arc (room n row : ℕ) (low high : Child) (xs : List (Element PairKey Request)) (f : RunFault) : Type 0 where
+pub record RefusedArc (room n row : ℕ) (low high : Child) (xs : List (Element PairKey Request)) (f : RunFault) : Type 0 where
   pub side : Bool
   pub wanted : cond side high.«open» low.«open» ≡ true
   pub full : room ≡ length (cond side (put_for n row false low) [] ++ xs)
@@ -49,7 +49,7 @@ pub record Refused-arc (room n row : ℕ) (low high : Child) (xs : List (Element
 
 abbrev pub PutArcs : ℕ → ℕ → ℕ → Child → Child → List (Element PairKey Request) → List (Element PairKey Request) → Result (Unit {0}) RunFault → Type 0
 PutArcs room n row low high xs ys (Ok u) = (length ys ≤ room) × IsPermutation (put_for n row true high ++ (put_for n row false low ++ xs)) ys
-PutArcs room n row low high xs ys (Err f) = Refused-arc room n row low high xs f
+PutArcs room n row low high xs ys (Err f) = RefusedArc room n row low high xs f
 
 -- what an arc is until it is pointed at a row: a closed child's terminal, else False
 abbrev pub draft : ℕ → Child → Target

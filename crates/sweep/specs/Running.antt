@@ -11,7 +11,7 @@ use Rattle.pairs.specs.declared.Pair.{Pair}
 use Rattle.pairs.specs.declared.keys.PairKey.{PairKey}
 use Rattle.pairs.specs.Keys.{key_of}
 use Rattle.pairs.specs.Pairs.{Run, kid}
-use Rattle.pairs.specs.Rows.{Rows, Outcome, done, no_row, queue-full, Comes, Refuses}
+use Rattle.pairs.specs.Rows.{Rows, Outcome, done, no_row, queue_full, Comes, Refuses}
 use Rattle.pairs.specs.Records.{records_of, root_of, Means}
 use Rattle.sweep.specs.declared.faults.Request.{Request}
 use Rattle.sweep.specs.declared.faults.RunFault.{RunFault}
@@ -51,7 +51,7 @@ pub record Done (r : Run) (space room : ℕ) (before after : List Row) (d : Ran)
 
 -- A queue that is full: the refused element, whole, is the request of the first arc, low before high, that found no room.
 pub record Overfull (r : Run) (space room : ℕ) (f : Refused PairKey Request) : Type 0 where
-  pub out : ComesOut r space room (queue-full f.element.carried.row)
+  pub out : ComesOut r space room (queue_full f.element.carried.row)
   pub pair : Pair
   pub refuses : Refuses r out.pairs room f.element.carried.row pair f.element.carried.high
   pub key : f.element.key ≡ key_of r.facts (kid r f.element.carried.high pair)

@@ -8,7 +8,7 @@ use Rattle.pairs.specs.declared.keys.PairKey.{PairKey}
 use Rattle.pairs.specs.Keys.{key_of}
 use Rattle.pairs.specs.Pairs.{Run, Sides, pair_level, level, start, opens, verdict}
 use Rattle.pairs.specs.Records.{terminal}
-use Rattle.sweep.specs.Requests.{put_for, Refused-arc}
+use Rattle.sweep.specs.Requests.{put_for, RefusedArc}
 use Rattle.sweep.specs.Running.{run_of, Swept}
 use Rattle.sweep.proofs.Sided.{reads_own, reads_on, ready_from, kids_as, start_as, sides_of}
 use Rattle.sweep.proofs.Stages.{Stage, Mid, none_done, stage_first, stage_within, stage_no_row, stage_full, stage_put, mid_within, mid_done, mid_next}
@@ -26,15 +26,15 @@ start_pair-requires g c = record {
 
 module _ (g : given.Over) (c : goal.After-key_of-key g) where
   -- the run, and what is asked of its sides
-  abbrev the-run : Run
-  the-run = run_of (g.L.Source.facts c.args.left.now) (g.L.Source.top c.args.left.now) (g.L.Source.listed c.args.left.now) (g.R.Source.top c.args.right.now) (g.R.Source.listed c.args.right.now) c.args.task
+  abbrev the_run : Run
+  the_run = run_of (g.L.Source.facts c.args.left.now) (g.L.Source.top c.args.left.now) (g.L.Source.listed c.args.left.now) (g.R.Source.top c.args.right.now) (g.R.Source.listed c.args.right.now) c.args.task
 
-  sides : Sides the-run
+  sides : Sides the_run
   sides = sides_of _ _ _ _ _ _ c.args.task c.requires.left c.requires.right c.requires.facts
 
   -- the first key is the root pair's
-  first-pair : c.key_of-key.result.pair ≡ start the-run
-  first-pair =
+  first_pair : c.key_of-key.result.pair ≡ start the_run
+  first_pair =
       ap (λ (k : PairKey). k.pair) c.key_of-key.ensures ∙
       start_as _ _ _ _ _ c.args.task c.reader_of.result.fixed c.reader_of-2.result.fixed (c.reader_of.ensures 0).fact (c.reader_of-2.ensures 0).fact c.start_pair.result (c.start_pair.ensures c.args.task.operator)
 
@@ -48,9 +48,9 @@ returns-then-not-is_open g c =
     record {
       kept = c.requires.kept;
       room = refl;
-      swept = none_done (the-run g d) (sides g d) (length c.args.rows.now) (g.Q.Queue.room c.args.queue.now) c.args.rows.now refl c.terminal_of.result
-          (c.terminal_of.ensures ∙ ap terminal (c.verdict_of.ensures ∙ ap (verdict op) (first-pair g d)))
-          (ap (opens op) (sym (first-pair g d)) ∙ sym c.is_open.ensures.opens ∙ c.if-not-is_open.true);
+      swept = none_done (the_run g d) (sides g d) (length c.args.rows.now) (g.Q.Queue.room c.args.queue.now) c.args.rows.now refl c.terminal_of.result
+          (c.terminal_of.ensures ∙ ap terminal (c.verdict_of.ensures ∙ ap (verdict op) (first_pair g d)))
+          (ap (opens op) (sym (first_pair g d)) ∙ sym c.is_open.ensures.opens ∙ c.if-not-is_open.true);
       empty = c.requires.empty;
     }
 
@@ -63,16 +63,16 @@ loop-row-init g c =
       first_key g d,
       c.reader_of.ensures _,
       c.reader_of-2.ensures _,
-      subst⁻¹ (λ (p : Pair). Stage (the-run g d) (length c.args.rows.now) (g.Q.Queue.room c.args.queue.now) c.args.rows.now 0 p c.args.rows.now (g.Q.Queue.waiting c.args.queue.now)) (first-pair g d)
-          (stage_first (the-run g d) (sides g d) (length c.args.rows.now) (g.Q.Queue.room c.args.queue.now) c.args.rows.now refl
-          (ap (opens op) (sym (first-pair g d)) ∙ sym c.is_open.ensures.opens ∙ c.if-not-is_open.false) (g.Q.Queue.waiting c.args.queue.now) c.requires.empty),
+      subst⁻¹ (λ (p : Pair). Stage (the_run g d) (length c.args.rows.now) (g.Q.Queue.room c.args.queue.now) c.args.rows.now 0 p c.args.rows.now (g.Q.Queue.waiting c.args.queue.now)) (first_pair g d)
+          (stage_first (the_run g d) (sides g d) (length c.args.rows.now) (g.Q.Queue.room c.args.queue.now) c.args.rows.now refl
+          (ap (opens op) (sym (first_pair g d)) ∙ sym c.is_open.ensures.opens ∙ c.if-not-is_open.false) (g.Q.Queue.waiting c.args.queue.now) c.requires.empty),
     )
 
 pub children_of-children-requires : goal.children_of-children-requires
 children_of-children-requires g c =
     let d = (goal.at.children_of-children-requires g c).After-key_of-key in
     let v = c.loop-row.invariant in
-    let w = stage_within (the-run g d) (sides g d) _ _ _ refl c.loop-row.row c.loop-row.key.pair c.loop-row.rows _ v.5 in
+    let w = stage_within (the_run g d) (sides g d) _ _ _ refl c.loop-row.row c.loop-row.key.pair c.loop-row.rows _ v.5 in
     record {
       left = ready_from _ _ _ c.loop-row.readers.left c.moved_on.result c.loop-row.key.level c.loop-row.key.pair.left c.requires.left w.0 c.moved_on.ensures.reads c.moved_on.ensures.starts;
       right = ready_from _ _ _ c.loop-row.readers.right c.moved_on-in-loop-row.result c.loop-row.key.level c.loop-row.key.pair.right c.requires.right w.1 c.moved_on-in-loop-row.ensures.reads c.moved_on-in-loop-row.ensures.starts;
@@ -93,24 +93,24 @@ returns-in_err-put_arcs g c =
     let kids = kids_as _ _ _ _ _ c.args.task c.moved_on.result.fixed c.moved_on-in-loop-row.result.fixed (c.moved_on.ensures.reads.fact ∙ v.3.fact) (c.moved_on-in-loop-row.ensures.reads.fact ∙ v.4.fact)
     c.loop-row.key.pair low high c.children_of-children.ensures in
     let p = err_from_is_err_and c.from_residual.result c.from_residual.ensures.1 in
-    let refused = subst₂ (λ m k. Refused-arc m k c.loop-row.row low high ws c.in_err-put_arcs.field-0.0) v.1 c.n-n.ensures a.put in
-    let ends = stage_full (the-run g d) (sides g d) space room c.args.rows.now refl c.loop-row.row c.loop-row.key.pair c.loop-row.rows ws v.5 (omega (arith, v.5.size)) low high kids c.drafted.result c.in_err-put_arcs.field-0.0 refused in
+    let refused = subst₂ (λ m k. RefusedArc m k c.loop-row.row low high ws c.in_err-put_arcs.field-0.0) v.1 c.n-n.ensures a.put in
+    let ends = stage_full (the_run g d) (sides g d) space room c.args.rows.now refl c.loop-row.row c.loop-row.key.pair c.loop-row.rows ws v.5 (omega (arith, v.5.size)) low high kids c.drafted.result c.in_err-put_arcs.field-0.0 refused in
     record {
       kept = a.kept;
       room = a.room ∙ v.1;
-      swept = subst⁻¹ (λ res. Swept (the-run g d) space room c.args.rows.now rows res) p.1 (subst⁻¹ (λ f. Swept (the-run g d) space room c.args.rows.now rows (Err f)) p.2 ends);
+      swept = subst⁻¹ (λ res. Swept (the_run g d) space room c.args.rows.now rows res) p.1 (subst⁻¹ (λ f. Swept (the_run g d) space room c.args.rows.now rows (Err f)) p.2 ends);
       empty = IfOk-from_err c.from_residual.result _ (ap is_err p.1);
     }
 
 module _ (g : given.Over) (c : goal.In_ok-put_arcs g) where
-  abbrev run-here : Run
-  run-here = run_of (g.L.Source.facts c.args.left.now) (g.L.Source.top c.args.left.now) (g.L.Source.listed c.args.left.now) (g.R.Source.top c.args.right.now) (g.R.Source.listed c.args.right.now) c.args.task
+  abbrev run_here : Run
+  run_here = run_of (g.L.Source.facts c.args.left.now) (g.L.Source.top c.args.left.now) (g.L.Source.listed c.args.left.now) (g.R.Source.top c.args.right.now) (g.R.Source.listed c.args.right.now) c.args.task
 
-  sides-here : Sides run-here
-  sides-here = sides_of _ _ _ _ _ _ c.args.task c.requires.left c.requires.right c.requires.facts
+  sides_here : Sides run_here
+  sides_here = sides_of _ _ _ _ _ _ c.args.task c.requires.left c.requires.right c.requires.facts
 
   -- the row is opened, and its arcs are put
-  mid : Mid run-here (length c.args.rows.now) (g.Q.Queue.room c.args.queue.now) c.args.rows.now (c.loop-row.row + 1) (level run-here c.loop-row.key.pair) (set c.loop-row.rows c.loop-row.row c.drafted.result) (g.Q.Queue.waiting c.put_arcs.new.queue)
+  mid : Mid run_here (length c.args.rows.now) (g.Q.Queue.room c.args.queue.now) c.args.rows.now (c.loop-row.row + 1) (level run_here c.loop-row.key.pair) (set c.loop-row.rows c.loop-row.row c.drafted.result) (g.Q.Queue.waiting c.put_arcs.new.queue)
   mid =
       let v = c.loop-row.invariant in
       let low = c.children_of-children.result.low in
@@ -120,7 +120,7 @@ module _ (g : given.Over) (c : goal.In_ok-put_arcs g) where
       let kids = kids_as _ _ _ _ _ c.args.task c.moved_on.result.fixed c.moved_on-in-loop-row.result.fixed (c.moved_on.ensures.reads.fact ∙ v.3.fact) (c.moved_on-in-loop-row.ensures.reads.fact ∙ v.4.fact)
       c.loop-row.key.pair low high c.children_of-children.ensures in
       let put = subst₂ (λ m k. (length vs ≤ m) × IsPermutation (put_for k c.loop-row.row true high ++ (put_for k c.loop-row.row false low ++ ws)) vs) v.1 c.n-n.ensures c.in_ok-put_arcs.ensures.put in
-      stage_put run-here sides-here (length c.args.rows.now) (g.Q.Queue.room c.args.queue.now) c.args.rows.now refl c.loop-row.row c.loop-row.key.pair c.loop-row.rows ws v.5 (omega (arith, v.5.size)) low high kids
+      stage_put run_here sides_here (length c.args.rows.now) (g.Q.Queue.room c.args.queue.now) c.args.rows.now refl c.loop-row.row c.loop-row.key.pair c.loop-row.rows ws v.5 (omega (arith, v.5.size)) low high kids
       c.drafted.result (c.drafted.ensures.level ∙ ap (λ (k : PairKey). k.level) v.2) c.drafted.ensures.low c.drafted.ensures.high vs put.0 put.1
 
 pub next_pair-requires : goal.next_pair-requires
@@ -128,7 +128,7 @@ next_pair-requires g c =
     let d = (goal.at.next_pair-requires g c).In_ok-put_arcs in
     record {
       kept = c.in_ok-put_arcs.ensures.kept;
-      within = mid_within (run-here g d) (sides-here g d) (length c.args.rows.now) (g.Q.Queue.room c.args.queue.now) c.args.rows.now refl (c.loop-row.row + 1) (level (run-here g d) c.loop-row.key.pair)
+      within = mid_within (run_here g d) (sides_here g d) (length c.args.rows.now) (g.Q.Queue.room c.args.queue.now) c.args.rows.now refl (c.loop-row.row + 1) (level (run_here g d) c.loop-row.key.pair)
           (set c.loop-row.rows c.loop-row.row c.drafted.result) (g.Q.Queue.waiting c.put_arcs.new.queue) (mid g d);
     }
 
@@ -141,11 +141,11 @@ returns-in-None g c =
     record {
       kept = a.kept;
       room = a.room ∙ c.in_ok-put_arcs.ensures.room ∙ c.loop-row.invariant.1;
-      swept = mid_done (run-here g d) (sides-here g d) (length c.args.rows.now) (g.Q.Queue.room c.args.queue.now) c.args.rows.now refl (c.loop-row.row + 1) (level (run-here g d) c.loop-row.key.pair)
+      swept = mid_done (run_here g d) (sides_here g d) (length c.args.rows.now) (g.Q.Queue.room c.args.queue.now) c.args.rows.now refl (c.loop-row.row + 1) (level (run_here g d) c.loop-row.key.pair)
           (set c.loop-row.rows c.loop-row.row c.drafted.result) (g.Q.Queue.waiting c.put_arcs.new.queue) (mid g d)
           (g.Q.Queue.waiting c.next_pair.new.queue) c.next_pair.new.rows (Node c.key_of-key.result.level 0)
-          (ap (opens op) (sym (first-pair g e)) ∙ sym c.is_open.ensures.opens ∙ c.if-not-is_open.false)
-          (ap (λ l. Node l 0) (ap (λ (k : PairKey). k.level) (first_key g e) ∙ ap (pair_level (g.L.Source.facts c.args.left.now)) (first-pair g e)))
+          (ap (opens op) (sym (first_pair g e)) ∙ sym c.is_open.ensures.opens ∙ c.if-not-is_open.false)
+          (ap (λ l. Node l 0) (ap (λ (k : PairKey). k.level) (first_key g e) ∙ ap (pair_level (g.L.Source.facts c.args.left.now)) (first_pair g e)))
           a.next;
       empty = a.next.1;
     }
@@ -155,7 +155,7 @@ loop-row-preserved g c =
     let d = (goal.at.loop-row-preserved g c).In_ok-put_arcs in
     let v = c.loop-row.invariant in
     let a = c.in-Some.ensures in
-    let n = mid_next (run-here g d) (sides-here g d) (length c.args.rows.now) (g.Q.Queue.room c.args.queue.now) c.args.rows.now refl (c.loop-row.row + 1) (level (run-here g d) c.loop-row.key.pair)
+    let n = mid_next (run_here g d) (sides_here g d) (length c.args.rows.now) (g.Q.Queue.room c.args.queue.now) c.args.rows.now refl (c.loop-row.row + 1) (level (run_here g d) c.loop-row.key.pair)
     (set c.loop-row.rows c.loop-row.row c.drafted.result) (g.Q.Queue.waiting c.put_arcs.new.queue) (mid g d)
     (g.Q.Queue.waiting c.next_pair.new.queue) c.next_pair.new.rows c.in-Some.pair a.next in
     let key = c.key_of-key-in-Some.ensures in
@@ -167,7 +167,7 @@ loop-row-preserved g c =
       key ∙ ap₂ key_of c.n-n.ensures (sym same),
       reads_on _ _ _ _ c.loop-row.readers.left c.moved_on.result v.3 c.moved_on.ensures.reads up,
       reads_on _ _ _ _ c.loop-row.readers.right c.moved_on-in-loop-row.result v.4 c.moved_on-in-loop-row.ensures.reads up,
-      subst⁻¹ (λ (p : Pair). Stage (run-here g d) (length c.args.rows.now) (g.Q.Queue.room c.args.queue.now) c.args.rows.now (c.loop-row.row + 1) p c.next_pair.new.rows (g.Q.Queue.waiting c.next_pair.new.queue)) same n.0,
+      subst⁻¹ (λ (p : Pair). Stage (run_here g d) (length c.args.rows.now) (g.Q.Queue.room c.args.queue.now) c.args.rows.now (c.loop-row.row + 1) p c.next_pair.new.rows (g.Q.Queue.waiting c.next_pair.new.queue)) same n.0,
     )
 
 pub returns : goal.returns
@@ -177,6 +177,6 @@ returns g c =
     record {
       kept = v.0;
       room = v.1;
-      swept = stage_no_row (the-run g d) (sides g d) _ _ _ refl c.loop-row.row c.loop-row.key.pair c.loop-row.rows _ v.5 (omega (arith, v.5.size));
+      swept = stage_no_row (the_run g d) (sides g d) _ _ _ refl c.loop-row.row c.loop-row.key.pair c.loop-row.rows _ v.5 (omega (arith, v.5.size));
       empty = tt;
     }
