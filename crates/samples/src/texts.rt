@@ -3,7 +3,6 @@
 use listing::reports::Report;
 use listing::{Record, Target};
 use source::Source;
-use std::test::Fail;
 use text::opening::Text;
 
 // The number, place and detail of a text's fault; all 0 where it opens.
@@ -27,7 +26,7 @@ fn report(number: u32, place: u32, detail: u32) -> Report {
 }
 
 #[test]
-fn a_record_is_read(rt: HostRuntime) -> Result<(), Fail> {
+fn a_record_is_read(rt: HostRuntime) {
     match Text::open(b"   3     1   2     0\n   2     0   3     0   3     1\n") {
         Ok(text) => {
             assert!(rt; text.n() == 3);
@@ -49,12 +48,8 @@ fn a_record_is_read(rt: HostRuntime) -> Result<(), Fail> {
                     })
             );
             assert!(rt; text.record(1) == None);
-            Ok(())
         }
-        Err(_) => {
-            assert!(rt; false);
-            Ok(())
-        },
+        Err(_) => assert!(rt; false),
     }
 }
 
@@ -109,7 +104,7 @@ fn columns_are_tested(rt: HostRuntime) {
 }
 
 #[test]
-fn terminals_are_roots(rt: HostRuntime) -> Result<(), Fail> {
+fn terminals_are_roots(rt: HostRuntime) {
     match Text::open(b"   7     0   7     0\n") {
         Ok(text) => assert!(rt; text.root() == Target::False),
         Err(_) => assert!(rt; false),
@@ -119,11 +114,7 @@ fn terminals_are_roots(rt: HostRuntime) -> Result<(), Fail> {
             assert!(rt; text.n() == 9999);
             assert!(rt; text.root() == Target::True);
             assert!(rt; text.record(0) == None);
-            Ok(())
         }
-        Err(_) => {
-            assert!(rt; false);
-            Ok(())
-        },
+        Err(_) => assert!(rt; false),
     }
 }

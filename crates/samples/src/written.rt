@@ -4,7 +4,6 @@ use listing::Target;
 use listing::samples::exclusive_or;
 use source::Source;
 use source::records::Records;
-use std::test::Fail;
 use text::opening::Text;
 use text_writing::writing::write;
 
@@ -64,7 +63,7 @@ fn columns_are_filled(rt: HostRuntime) {
 }
 
 #[test]
-fn what_is_written_opens_again(rt: HostRuntime) -> Result<(), Fail> {
+fn what_is_written_opens_again(rt: HostRuntime) {
     let records = exclusive_or();
     let source = Records {
         n: 3,
@@ -82,11 +81,7 @@ fn what_is_written_opens_again(rt: HostRuntime) -> Result<(), Fail> {
             assert!(rt; text.root() == source.root());
             assert!(rt; text.record(1) == source.record(1));
             assert!(rt; text.count() == 3);
-            Ok(())
         }
-        Err(_) => {
-            assert!(rt; false);
-            Ok(())
-        },
+        Err(_) => assert!(rt; false),
     }
 }
