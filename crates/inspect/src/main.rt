@@ -18,7 +18,7 @@ fn run(rt: &HostRuntime) -> anyhow::Result<()> {
     let mut counts = vec![in rt.alloc(); 0usize; LEVELS]?;
     match summarize(bytes.as_slice(), counts.as_mut_slice()) {
         Ok(summary) => print_summary(rt, summary, counts.as_slice()),
-        Err(report) => print_fault(rt, report),
+        Err(fault) => print_fault(rt, fault),
     }
 }
 

@@ -9,3 +9,4 @@ pub mod Laws
 pub mod Bridge
 pub mod Counting
 pub mod Deciding
+pub mod Derived

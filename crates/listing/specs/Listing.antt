@@ -28,6 +28,16 @@ is_true (Node l k) = false
 is_true False = false
 is_true True = true
 
+-- the level that a target lies on over n facts: terminals lie on level n
+abbrev pub depth : ℕ → Target → ℕ
+depth n (Node l k) = l
+depth n False = n
+depth n True = n
+
+-- the terminal of a bit
+abbrev pub terminal : Bool → Target
+terminal b = cond b True False
+
 -- Where fact i is `f i`, follow the records from a target to a terminal, and tell whether that is True.
 -- Targets stand later in a list than what leads to them, so one pass over the list finds them.
 abbrev pub walk : List Record → (ℕ → Bool) → Target → Bool

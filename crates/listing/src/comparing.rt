@@ -9,15 +9,7 @@ use crate::{Record, Target};
 pub fn same_records(left: &[Record], right: &[Record]) -> bool
     ensures { Decides result (left.now ≡ right.now) }
 {
-    if left.len() != right.len() {
-        return false;
-    }
-    for i in 0..left.len() {
-        if !left[i].same(right[i]) {
-            return false;
-        }
-    }
-    true
+    left == right
 }
 
 /// Whether two listings have equal roots and equal records. Where both are normal listings over the same n,

@@ -5,7 +5,7 @@
 #![tactic(auto)]
 
 ghost use Rattle.std.specs.Prelude.{◌≡◌, Decides};
-ghost use Rattle.listing.specs.Listing.{node, names, child, is_true, Before, Rises, RecordBefore};
+ghost use Rattle.listing.specs.Listing.{node, names, child, is_true, depth, terminal, Before, Rises, RecordBefore};
 ghost use Rattle.listing.specs.Meaning.{ToldApart};
 
 pub mod comparing;
@@ -14,23 +14,34 @@ pub mod samples;
 pub mod settings;
 pub mod walking;
 
+use std::fmt;
+
 /// Where an arc, or a root, leads: a node, named by its level and its number on that level, or a terminal.
 /// The derived order is the order of targets: nodes by level, then number; False after every node; True after False.
-#[derive(Clone, Copy, PartialEq, Eq, PartialOrd, Ord)]
+#[derive(Clone, Copy, Default, PartialEq, Eq, PartialOrd, Ord)]
 pub enum Target {
     Node { level: u16, number: u32 },
+    #[default]
     False,
     True,
 }
 
 /// A node's own level and number, and its two targets: `low` where its fact is 0, `high` where it is 1.
 /// The derived order is by level, number, low, high.
-#[derive(Clone, Copy, PartialEq, Eq, PartialOrd, Ord)]
+#[derive(Clone, Copy, Default, PartialEq, Eq, PartialOrd, Ord)]
 pub struct Record {
     pub level: u16,
     pub number: u32,
     pub low: Target,
     pub high: Target,
+}
+
+/// A listing that stands in the first places of some space: its root, and how many records it has.
+// A count beside a space, since the space is the caller's: the library has no heap.
+#[derive(Clone, Copy)]
+pub struct Stored {
+    pub root: Target,
+    pub count: usize,
 }
 
 impl Target {
@@ -54,21 +65,42 @@ impl Target {
     pub fn names(self, r: Record) -> bool
         ensures { result ≡ names self r }
     {
-        match self {
-            Target::Node { level, number } => level == r.level && number == r.number,
-            Target::False => false,
-            Target::True => false,
-        }
+        self == r.node()
     }
 
     /// Whether this target is the terminal True.
     pub fn is_true(self) -> bool
         ensures { result ≡ is_true self }
     {
+        self == Target::True
+    }
+
+    /// The level that this target lies on over n facts: a node's own, and n for a terminal.
+    pub fn depth(self, n: u16) -> u16
+        ensures { result ≡ depth n self }
+    {
         match self {
-            Target::Node { .. } => false,
-            Target::False => false,
-            Target::True => true,
+            Target::Node { level, .. } => level,
+            Target::False | Target::True => n,
+        }
+    }
+}
+
+impl From<bool> for Target {
+    ghost from_gives = { λ bit t. t ≡ terminal bit };
+
+    /// The terminal that stands for a bit.
+    fn from(bit: bool) -> Target {
+        if bit { Target::True } else { Target::False }
+    }
+}
+
+impl fmt::Display for Target {
+    fn fmt<W: fmt::Write>(&self, f: &mut fmt::Formatter<W>) -> fmt::Result {
+        match self {
+            Target::Node { level, number } => write!(f, "level {level}, number {number}"),
+            Target::False => f.write_str("False"),
+            Target::True => f.write_str("True"),
         }
     }
 }
@@ -109,7 +141,7 @@ impl Record {
     pub fn rises(self, other: Record) -> bool
         ensures { Decides result (Rises self other) }
     {
-        self.low.precedes(other.low) || self.low == other.low && self.high.precedes(other.high)
+        (self.low, self.high) < (other.low, other.high)
     }
 }
 

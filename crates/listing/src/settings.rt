@@ -11,7 +11,7 @@ pub const MOST_FACTS: u16 = 512;
 pub fn facts_allowed(n: u16) -> bool
     ensures { Decides result (Facts n) }
 {
-    1 <= n && n <= MOST_FACTS
+    (1..=MOST_FACTS).contains(&n)
 }
 
 /// How many settings n facts have, where a `u64` holds it: 2 ^ n.

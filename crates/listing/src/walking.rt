@@ -11,14 +11,7 @@ use crate::{Record, Target};
 pub fn fact_of(setting: &[u8], level: u16) -> bool
     ensures { result ≡ fact (map bit setting.now) level }
 {
-    bit_at(setting, level as usize)
-}
-
-// Whether there is a byte at a place, and it is 1.
-fn bit_at(setting: &[u8], at: usize) -> bool
-    ensures { result ≡ fact (map bit setting.now) at }
-{
-    at < setting.len() && setting[at] == 1
+    setting.get(level as usize) == Some(&1)
 }
 
 /// The value of `root` at a setting, one byte a fact: from the root, take low where the node's fact is 0,

@@ -4,26 +4,16 @@
 #![tactic(auto)]
 
 use anyhow::anyhow;
-use listing::{Record, Target};
-use normalizing::texts::{MOST_BYTES, normal_bytes};
+use listing::Record;
+use normalizing::texts::{MOST_BYTES, MOST_RECORDS, normal_bytes};
 use rows::row::ZERO;
 use std::io::{Read, Write};
-
-// One row and one record for each record that an input may have.
-const MOST_RECORDS: usize = 515;
-
-const NO_RECORD: Record = Record {
-    level: 0,
-    number: 0,
-    low: Target::False,
-    high: Target::False,
-};
 
 fn run(rt: &HostRuntime) -> anyhow::Result<()> {
     let mut input = Vec::new(rt.alloc());
     rt.stdin().read_to_end(&mut input)?;
     let mut rows = vec![in rt.alloc(); ZERO; MOST_RECORDS]?;
-    let mut records = vec![in rt.alloc(); NO_RECORD; MOST_RECORDS]?;
+    let mut records = vec![in rt.alloc(); Record::default(); MOST_RECORDS]?;
     let mut output = vec![in rt.alloc(); 0u8; MOST_BYTES]?;
     match normal_bytes(
         input.as_slice(),
@@ -32,10 +22,10 @@ fn run(rt: &HostRuntime) -> anyhow::Result<()> {
         output.as_mut_slice(),
     ) {
         Ok(len) => {
-            if len > output.len() {
+            let Some(normal) = output.get(..len) else {
                 return Err(anyhow!("the length told is beyond the output"));
-            }
-            rt.stdout().write_all(&output.as_slice()[0..len])?;
+            };
+            rt.stdout().write_all(normal)?;
             Ok(())
         }
         Err(_) => Err(anyhow!("the output has no room for a fault")),

@@ -10,7 +10,7 @@ use Rattle.text.specs.declared.opening.Text.{Text}
 use Rattle.text.specs.Layout.{facts_of, root_of, records_of}
 use Rattle.text.specs.Opened.{listed_of, Opened}
 use Rattle.text_writing.specs.Writing.{Wrote, OpensAgain}
-use Rattle.reduce.specs.declared.loading.Loaded.{Loaded}
+use Rattle.listing.specs.declared.Stored.{Stored}
 use Rattle.reduce.specs.Loading.{Spaces, Loads}
 use Rattle.normalizing.specs.Texts.{Made}
 
@@ -22,14 +22,14 @@ front n root xs ys k before after (Ok len) e l w a = subst (λ (zs : List Record
 front n root xs ys k before after (Err f) e l w a = (omega (arith, w.0, ap length e), w.1)
 
 -- what was loaded, for the listing that the bytes tell
-pub loads_of : (input : List ℕ) (t : Text) (s : Spaces) (d : Loaded) (n : ℕ) → Opened input t → n ≡ t.n → Loads n t.n t.root (listed_of t) s (Ok d) → Loads (facts_of input) (facts_of input) (root_of input) (records_of input) s (Ok d)
+pub loads_of : (input : List ℕ) (t : Text) (s : Spaces) (d : Stored) (n : ℕ) → Opened input t → n ≡ t.n → Loads n t.n t.root (listed_of t) s (Ok d) → Loads (facts_of input) (facts_of input) (root_of input) (records_of input) s (Ok d)
 loads_of input t s d n o e h =
     subst (λ (m : ℕ). Loads m (facts_of input) (root_of input) (records_of input) s (Ok d)) (e ∙ o.facts)
     (subst (λ (m : ℕ). Loads n m (root_of input) (records_of input) s (Ok d)) o.facts
     (subst (λ (r : Target). Loads n t.n r (records_of input) s (Ok d)) o.root
     (subst (λ (rs : List Record). Loads n t.n t.root rs s (Ok d)) o.records h)))
 
-pub made : (input : List ℕ) (t : Text) (s : Spaces) (d : Loaded) (n : ℕ) (before after : List ℕ) (len : ℕ) → Opened input t → n ≡ t.n → Facts n → Loads n t.n t.root (listed_of t) s (Ok d) →
+pub made : (input : List ℕ) (t : Text) (s : Spaces) (d : Stored) (n : ℕ) (before after : List ℕ) (len : ℕ) → Opened input t → n ≡ t.n → Facts n → Loads n t.n t.root (listed_of t) s (Ok d) →
     Wrote n d.root (take d.count s.records_after) before after len × OpensAgain n d.root (take d.count s.records_after) (take len after) → Made input s before after len
 made input t s d n before after len o e f h w =
     let l = loads_of input t s d n o e h in

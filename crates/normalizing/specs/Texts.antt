@@ -6,7 +6,7 @@ use Rattle.listing.specs.Settings.{Facts}
 use Rattle.text.specs.Layout.{facts_of, root_of, records_of, text_fault}
 use Rattle.text_writing.specs.declared.faults.WriteFault.{WriteFault}
 use Rattle.text_writing.specs.Writing.{Wrote, Tells, Reported}
-use Rattle.reduce.specs.declared.loading.Loaded.{Loaded}
+use Rattle.listing.specs.declared.Stored.{Stored}
 use Rattle.reduce.specs.Loading.{Spaces, Untouched, Fitting, Loads}
 use Rattle.normalizing.specs.declared.faults.NormalFault.{NormalFault}
 use Rattle.normalizing.specs.declared.faults.NormalFault.TheVariants as fault
@@ -23,13 +23,13 @@ pub record Made (input : List ℕ) (s : Spaces) (before after : List ℕ) (len :
   pub root : Target
   pub records : List Record
   pub fitting : Fitting (facts_of input) (root_of input) (records_of input) root records
-  pub loaded : (d : Loaded) × Loads (facts_of input) (facts_of input) (root_of input) (records_of input) s (Ok d)
+  pub loaded : (d : Stored) × Loads (facts_of input) (facts_of input) (root_of input) (records_of input) s (Ok d)
   pub wrote : Wrote (facts_of input) root records before after len
   pub tells : Tells (facts_of input) root records (take len after)
 
 -- the text's listing is loaded, and the output is too short for the normal listing's text
 pub record Unwritten (input : List ℕ) (s : Spaces) (before : List ℕ) : Type 0 where
-  pub told : Loaded
+  pub told : Stored
   pub loaded : Loads (facts_of input) (facts_of input) (root_of input) (records_of input) s (Ok told)
   pub lacks : length before < 21 + 31 * told.count
 

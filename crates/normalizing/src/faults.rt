@@ -48,25 +48,25 @@ impl From<WriteFault> for NormalFault {
     }
 }
 
-impl NormalFault {
+impl From<NormalFault> for Report {
+    ghost from_gives = { λ fault report. report ≡ told fault };
+
     /// The fault's number, place and detail.
-    pub fn report(self) -> Report
-        ensures { result ≡ told self }
-    {
-        match self {
+    fn from(fault: NormalFault) -> Report {
+        match fault {
             NormalFault::Input => Report {
                 number: 19,
                 place: 0,
                 detail: 0,
             },
-            NormalFault::Text(fault) => fault.report(),
+            NormalFault::Text(below) => Report::from(below),
             NormalFault::Facts => Report {
                 number: 1,
                 place: 0,
                 detail: 0,
             },
-            NormalFault::Load(fault) => fault.report(),
-            NormalFault::Write(fault) => fault.report(),
+            NormalFault::Load(below) => Report::from(below),
+            NormalFault::Write(below) => Report::from(below),
         }
     }
 }

@@ -5,19 +5,23 @@ ghost use Rattle.text_writing.specs.Writing.{Wrote, OpensAgain};
 ghost use Rattle.normalizing.specs.Texts.{Normalized, Printed, Answered};
 
 use crate::faults::NormalFault;
-use listing::Record;
+use listing::reports::Report;
 use listing::settings::facts_allowed;
-use reduce::loading::{Loaded, load};
+use listing::{Record, Stored};
+use reduce::loading::load;
 use rows::row::Row;
 use source::Source;
 use source::records::Records;
-use text::opening::Text;
+use text::opening::{HEADER, LINE, Text};
 use text_writing::faults::WriteFault;
 use text_writing::reporting::write_report;
 use text_writing::writing::write;
 
+/// The most records that an input may have.
+pub const MOST_RECORDS: usize = 515;
+
 /// The most bytes that an input may have: a header and 515 records.
-pub const MOST_BYTES: usize = 15_986;
+pub const MOST_BYTES: usize = HEADER + LINE * MOST_RECORDS;
 
 /// Makes a text normal: writes the text of the normal listing of the input's value to the output's front, and tells
 /// its length. Faults, in this order: an input over 15,986 bytes; opening's; n outside 1 to 512; loading's; an
@@ -64,13 +68,13 @@ pub fn normal_bytes(
 fn print_fault(fault: NormalFault, output: &mut [u8]) -> Result<usize, WriteFault>
     ensures { Printed (Err fault) output.old output.new result }
 {
-    write_report(fault.report(), output)
+    write_report(Report::from(fault), output)
 }
 
 // Writes the text of the listing whose records stand in front.
 fn write_front(
     n: u16,
-    loaded: Loaded,
+    loaded: Stored,
     records: &[Record],
     output: &mut [u8],
 ) -> Result<usize, WriteFault>
@@ -82,7 +86,7 @@ fn write_front(
         &Records {
             n,
             root: loaded.root,
-            records: &records[0..count],
+            records: &records[..count],
         },
         output,
     )

@@ -1,15 +1,14 @@
--- Keys are ordered as the pairs, and targets by their numbers.
-use Rattle.std.proofs.Common.{◌≡◌, ℕ, ◌<◌, ◌⊎◌, Ordering, Less, Equal, Greater, sym, refl, ap₂, inl, inr, ⊎_elim, arith}
-use Rattle.std.specs.Cmp.{one_rank, ranks}
+-- Keys are ordered as the pairs.
+use Rattle.std.proofs.Common.{◌≡◌, ◌<◌, ◌⊎◌, Ordering, Less, Equal, Greater, sym, inl, inr, ⊎_elim}
+use Rattle.std.specs.Cmp.{ranks}
 use Rattle.std.specs.Ordering.{ordering_then, MatchOrdering, nat_cmp}
-use Rattle.std.proofs.lemmas.Bool.{cases_order}
-use Rattle.listing.specs.declared.Target.{Target}
-use Rattle.listing.specs.declared.Target.TheVariants.{Node, False, True}
 use Rattle.listing.specs.Listing.{Before}
-use Rattle.listing.specs.Ranks.{before_irr, before_trans, rank_target, ranks_target}
+use Rattle.listing.specs.Ranks.{rank_target, ranks_target}
+use Rattle.listing.proofs.Derived.{target_cmp}
 use Rattle.pairs.specs.declared.Pair.{Pair}
 use Rattle.pairs.specs.Pairs.{Run, level, Ahead}
-use Rattle.pairs.specs.Keys.{key_of, rank_key, Weighs}
+use Rattle.pairs.specs.contracts.keys.PairKeyOrd.TheImpl as by_key
+use Rattle.pairs.specs.Keys.{key_of, rank_key}
 use Rattle.pairs.proofs.PairOrder.{Precedes, ahead_decides, pair_path}
 
 then_ranked : (A B C A' B' C' : Type 0) (k m : Ordering) → MatchOrdering k A B C → MatchOrdering m A' B' C' → MatchOrdering (ordering_then k m) (A ⊎ (B × A')) (B × B') (C ⊎ (B × C'))
@@ -36,40 +35,6 @@ meets r p q =
     back (inl l) = inl l
     back (inr h) = inr (sym h.0, ⊎_elim (λ l. inl l) (λ l. inr (sym l.0, l.1)) h.1)
 
--- the lesser number is the earlier target
-lighter : (t u : Target) (x y : ℕ) → Weighs t x → Weighs u y → x < y → Before t u
-lighter (Node a i) (Node b j) x y h g l = by (cases_order a b)
-  where
-    by : (a ≡ b) ⊎ ((a < b) ⊎ (b < a)) → Before (Node a i) (Node b j)
-    by (inl e) = inr (e, omega (arith, h.0, g.0))
-    by (inr (inl k)) = inl k
-    by (inr (inr k)) = absurd (omega (arith, h.0, h.1, g.0, g.1))
-lighter (Node a i) False x y h g l = tt
-lighter (Node a i) True x y h g l = tt
-lighter False (Node b j) x y h g l = absurd (omega (arith, g.0, g.1, g.2))
-lighter False False x y h g l = absurd (omega arith)
-lighter False True x y h g l = tt
-lighter True (Node b j) x y h g l = absurd (omega (arith, g.0, g.1, g.2))
-lighter True False x y h g l = absurd (omega arith)
-lighter True True x y h g l = absurd (omega arith)
-
-alike : (t u : Target) (x y : ℕ) → Weighs t x → Weighs u y → x ≡ y → t ≡ u
-alike (Node a i) (Node b j) x y h g l =
-    let p : a ≡ b = omega (arith, h.0, h.1, g.0, g.1) in
-    let q : i ≡ j = omega (arith, h.0, h.1, g.0, g.1) in
-    ap₂ Node p q
-alike (Node a i) False x y h g l = absurd (omega (arith, h.0, h.1, h.2))
-alike (Node a i) True x y h g l = absurd (omega (arith, h.0, h.1, h.2))
-alike False (Node b j) x y h g l = absurd (omega (arith, g.0, g.1, g.2))
-alike False False x y h g l = refl
-alike False True x y h g l = absurd (omega arith)
-alike True (Node b j) x y h g l = absurd (omega (arith, g.0, g.1, g.2))
-alike True False x y h g l = absurd (omega arith)
-alike True True x y h g l = refl
-
--- so targets compare as their numbers
-pub weighed : (t u : Target) (x y : ℕ) → Weighs t x → Weighs u y → nat_cmp x y ≡ rank_target t u
-weighed t u x y h g =
-    one_rank Before before_irr before_trans t u (nat_cmp x y) (rank_target t u)
-    (ranked_map _ _ _ (Before t u) (t ≡ u) (Before u t) (nat_cmp x y) (lighter t u x y h g) (alike t u x y h g) (lighter u t y x g h) (ranks x y))
-    (ranks_target t u)
+-- the derived comparison of keys is that order
+pub key_cmp : (by_key.ghosts).cmp ≡ rank_key
+key_cmp = λ i x y. ordering_then (nat_cmp x.level y.level) (ordering_then (target_cmp x.pair.left y.pair.left i) (target_cmp x.pair.right y.pair.right i))

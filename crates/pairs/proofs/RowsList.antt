@@ -7,13 +7,13 @@ use Rattle.std.proofs.lemmas.Bool.{cases_Bool, cases_lt, cond-true, cond-false, 
 use Rattle.listing.specs.declared.Target.TheVariants.{False, True}
 use Rattle.listing.specs.declared.Record.{Record}
 use Rattle.pairs.specs.declared.Pair.{Pair}
-use Rattle.listing.specs.Listing.{node, child, walk, Within, Above, Rooted, Follows, Numbered, Aims, Aimed, Levelled, Listing}
+use Rattle.listing.specs.Listing.{node, child, walk, Within, Above, Rooted, Follows, Numbered, Aims, Aimed, Levelled, Listing, terminal}
 use Rattle.listing.proofs.Walk.{Choice}
 use Rattle.listing.specs.Listing.{Reached as Found}
 use Rattle.listing.specs.Members.{In}
 use Rattle.pairs.specs.Pairs.{Side, Run, Sides, answer, level, kid, start, verdict, opens, Open, ahead, Ahead}
 use Rattle.pairs.specs.Rows.{Ascending, Reached, at_root, by_arc, Rows}
-use Rattle.pairs.specs.Records.{place, terminal, name, row, records_of, root_of, fixed_at, side_value, Means}
+use Rattle.pairs.specs.Records.{place, name, row, records_of, root_of, fixed_at, side_value, Means}
 use Rattle.pairs.proofs.Valued.{fix, value}
 use Rattle.listing.specs.Settings.{fact, Setting}
 use Rattle.listing.proofs.Bridge.{near}

@@ -7,8 +7,8 @@ use Rattle.listing.specs.declared.Target.TheVariants.{Node, False, True}
 use Rattle.listing.specs.declared.Record.{Record}
 use Rattle.pairs.specs.declared.Fixed.{Fixed}
 use Rattle.listing.specs.Members.{In}
-use Rattle.listing.specs.Listing.{node, child, walk, Within, Above, Listing}
-use Rattle.pairs.specs.Pairs.{Side, leads, on, fixing, settle, depth, move, put}
+use Rattle.listing.specs.Listing.{node, child, walk, Within, Above, Listing, depth}
+use Rattle.pairs.specs.Pairs.{Side, leads, on, fixing, settle, move, put}
 use Rattle.pairs.proofs.Valued.{fix}
 use Rattle.listing.proofs.Walk.{Choice, names_node, names_not, within_apart, within_node, Chain, child_within, child_above}
 use Rattle.listing.proofs.Unique.{walk_false, walk_true}

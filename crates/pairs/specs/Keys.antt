@@ -1,12 +1,9 @@
 -- The order of pair keys: by level, then left target, then right target. Assumes nothing.
-use Rattle.std.specs.Prelude.{◌≡◌, ℕ, ◌+◌, ◌*◌, ◌^◌, ◌<◌}
+use Rattle.std.specs.Prelude.{ℕ}
 use Rattle.std.specs.declared.cmp.Ordering.{Ordering}
 use Rattle.std.specs.Cmp.{IsTotalOrder, nat_cmp_total, then_total, on_total}
 use Rattle.std.specs.Ordering.{ordering_then, nat_cmp}
-use Rattle.listing.specs.declared.Target.{Target}
-use Rattle.listing.specs.declared.Target.TheVariants.{Node, False, True}
 use Rattle.listing.specs.Ranks.{rank_target, target_total}
-use Rattle.queue.specs.Rank.{Lawful, lawful_from_total}
 use Rattle.pairs.specs.declared.Pair.{Pair}
 use Rattle.pairs.specs.declared.keys.PairKey.{PairKey}
 use Rattle.pairs.specs.Pairs.{pair_level}
@@ -22,12 +19,3 @@ rank_key x y = ordering_then (nat_cmp x.level y.level) (ordering_then (rank_targ
 -- that order is total and transitive
 pub key_total : IsTotalOrder rank_key
 key_total = then_total (on_total (λ (x : PairKey). x.level) nat_cmp_total) (then_total (on_total (λ (x : PairKey). x.pair.left) target_total) (on_total (λ (x : PairKey). x.pair.right) target_total))
-
-pub key_lawful : Lawful rank_key
-key_lawful = lawful_from_total key_total
-
--- w is the target's number: those of nodes are by level and number, that of False is larger, that of True largest
-abbrev pub Weighs : Target → ℕ → Type 0
-Weighs (Node l k) w = (w ≡ l * 2 ^ 32 + k) × (k < 2 ^ 32) × (l < 2 ^ 16)
-Weighs False w = w ≡ 2 ^ 48
-Weighs True w = w ≡ 2 ^ 48 + 1

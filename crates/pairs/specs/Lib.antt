@@ -3,3 +3,4 @@ pub mod Rows
 pub mod Records
 pub mod Keys
 pub mod Samples
+pub mod Operators

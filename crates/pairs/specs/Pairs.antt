@@ -3,7 +3,7 @@ use Rattle.std.specs.Prelude.{◌≡◌, ℕ, ◌/◌, ◌%◌, min, Bool, true,
 use Rattle.listing.specs.declared.Target.{Target}
 use Rattle.listing.specs.declared.Target.TheVariants.{Node, False, True}
 use Rattle.listing.specs.declared.Record.{Record}
-use Rattle.listing.specs.Listing.{names, child, Listing}
+use Rattle.listing.specs.Listing.{names, child, depth, Listing}
 use Rattle.listing.specs.Tests.{before, same_target}
 use Rattle.pairs.specs.declared.Pair.{Pair}
 use Rattle.pairs.specs.declared.Fixed.{Fixed}
@@ -51,12 +51,6 @@ fixing rs (Some f) t = cond (on f.level t) (leads rs f.bit t) t
 
 abbrev pub settle : Side → Target → Target
 settle d t = fixing d.records d.fixed t
-
--- a target's level, terminals lying on level n
-abbrev pub depth : ℕ → Target → ℕ
-depth n (Node l k) = l
-depth n False = n
-depth n True = n
 
 -- a pair's level is the lesser of its two
 unfoldable pub pair_level : ℕ → Pair → ℕ

@@ -1,10 +1,10 @@
 -- The rows of a run read as records, and their value.
 use Rattle.std.specs.Prelude.{◌≡◌, ℕ, Bool, true, false, cond, ◌&&◌, List, map, length, Some, None, filter, Option, ◌==◌, slice_set}
 use Rattle.listing.specs.declared.Target.{Target}
-use Rattle.listing.specs.declared.Target.TheVariants.{Node, False, True}
+use Rattle.listing.specs.declared.Target.TheVariants.{Node}
 use Rattle.listing.specs.declared.Record.{Record}
 use Rattle.listing.specs.Settings.{Setting}
-use Rattle.listing.specs.Listing.{value, Listing}
+use Rattle.listing.specs.Listing.{value, terminal, Listing}
 use Rattle.pairs.specs.declared.Pair.{Pair}
 use Rattle.pairs.specs.declared.Fixed.{Fixed}
 use Rattle.pairs.specs.Pairs.{Side, Run, answer, level, kid, start, verdict, opens, ahead}
@@ -12,11 +12,6 @@ use Rattle.pairs.specs.Pairs.{Side, Run, answer, level, kid, start, verdict, ope
 -- a row's number on its level: how many rows of its level are before it
 unfoldable pub place : Run → List Pair → Pair → ℕ
 place r ps p = length (filter (λ q. (level r q == level r p) && ahead r q p) ps)
-
--- the terminal of a bit
-abbrev pub terminal : Bool → Target
-terminal false = False
-terminal true = True
 
 -- an open pair's node, a closed pair's terminal
 unfoldable pub name : Run → List Pair → Pair → Target

@@ -11,8 +11,8 @@ pub mod samples;
 
 use listing::Target;
 
-/// Two targets, one of each side.
-#[derive(Clone, Copy, PartialEq, Eq)]
+/// Two targets, one of each side. The derived order is by left, then right.
+#[derive(Clone, Copy, PartialEq, Eq, PartialOrd, Ord)]
 pub struct Pair {
     pub left: Target,
     pub right: Target,

@@ -2,44 +2,88 @@
 
 ghost use Rattle.std.specs.Prelude.{◌≡◌};
 ghost use Rattle.pairs.specs.Pairs.{answer};
+ghost use Rattle.pairs.specs.Operators.{number_of, Named};
 
-/// No, whatever the two are.
-pub const NEVER: u8 = 0;
-/// Neither of the two.
-pub const NEITHER: u8 = 1;
-/// The right one and not the left.
-pub const ONLY_RIGHT: u8 = 2;
-/// Not the left one.
-pub const NOT_LEFT: u8 = 3;
-/// The left one and not the right.
-pub const ONLY_LEFT: u8 = 4;
-/// Not the right one.
-pub const NOT_RIGHT: u8 = 5;
-/// Just one of the two.
-pub const DIFFER: u8 = 6;
-/// Not both.
-pub const NOT_BOTH: u8 = 7;
-/// Both.
-pub const BOTH: u8 = 8;
-/// Both or neither.
-pub const AGREE: u8 = 9;
-/// The right one.
-pub const RIGHT: u8 = 10;
-/// If the left one, then the right.
-pub const LEFT_IMPLIES: u8 = 11;
-/// The left one.
-pub const LEFT: u8 = 12;
-/// If the right one, then the left.
-pub const RIGHT_IMPLIES: u8 = 13;
-/// At least one of the two.
-pub const EITHER: u8 = 14;
-/// Yes, whatever the two are.
-pub const ALWAYS: u8 = 15;
+/// The operators by name, each with its number.
+#[derive(Clone, Copy, PartialEq, Eq)]
+pub enum Operator {
+    /// No, whatever the two are.
+    Never = 0,
+    /// Neither of the two.
+    Neither = 1,
+    /// The right one and not the left.
+    OnlyRight = 2,
+    /// Not the left one.
+    NotLeft = 3,
+    /// The left one and not the right.
+    OnlyLeft = 4,
+    /// Not the right one.
+    NotRight = 5,
+    /// Just one of the two.
+    Differ = 6,
+    /// Not both.
+    NotBoth = 7,
+    /// Both.
+    Both = 8,
+    /// Both or neither.
+    Agree = 9,
+    /// The right one.
+    Right = 10,
+    /// If the left one, then the right.
+    LeftImplies = 11,
+    /// The left one.
+    Left = 12,
+    /// If the right one, then the left.
+    RightImplies = 13,
+    /// At least one of the two.
+    Either = 14,
+    /// Yes, whatever the two are.
+    Always = 15,
+}
 
-/// The largest operator.
-pub const LAST: u8 = 15;
+/// A number that is no operator's: it is over 15.
+#[derive(Clone, Copy, PartialEq, Eq)]
+pub struct NoOperator {
+    pub number: u8,
+}
 
-/// The operator's answer of two bits.
+impl From<Operator> for u8 {
+    ghost from_gives = { λ operator number. number ≡ number_of operator };
+
+    fn from(operator: Operator) -> u8 {
+        operator as u8
+    }
+}
+
+impl TryFrom<u8> for Operator {
+    type Error = NoOperator;
+
+    ghost try_from_gives = { Named };
+
+    fn try_from(number: u8) -> Result<Operator, NoOperator> {
+        match number {
+            0 => Ok(Operator::Never),
+            1 => Ok(Operator::Neither),
+            2 => Ok(Operator::OnlyRight),
+            3 => Ok(Operator::NotLeft),
+            4 => Ok(Operator::OnlyLeft),
+            5 => Ok(Operator::NotRight),
+            6 => Ok(Operator::Differ),
+            7 => Ok(Operator::NotBoth),
+            8 => Ok(Operator::Both),
+            9 => Ok(Operator::Agree),
+            10 => Ok(Operator::Right),
+            11 => Ok(Operator::LeftImplies),
+            12 => Ok(Operator::Left),
+            13 => Ok(Operator::RightImplies),
+            14 => Ok(Operator::Either),
+            15 => Ok(Operator::Always),
+            _ => Err(NoOperator { number }),
+        }
+    }
+}
+
+/// The operator's answer of two bits. It takes the number, whose bits are the answers: a name would ask more of callers.
 pub fn answer(operator: u8, left: bool, right: bool) -> bool
     ensures { result ≡ answer operator left right }
 {

@@ -14,24 +14,24 @@ fn fact(level: u16) -> Target
     Target::Node { level, number: 0 }
 }
 
+// A pair by its two sides.
+fn pair(left: Target, right: Target) -> Pair
+    ensures { result ≡ record { left = left; right = right } }
+{
+    Pair { left, right }
+}
+
+// One function a sample carries its statement, since each statement is another.
+
 /// The rows of "just one of the facts 0 and 1", made of the two facts: with too few rows or too small a queue their making
 /// ends in the faults told.
 pub fn just_one() -> [Pair; 3]
     ensures { JustOne result }
 {
     let rows = [
-        Pair {
-            left: fact(0),
-            right: fact(1),
-        },
-        Pair {
-            left: Target::False,
-            right: fact(1),
-        },
-        Pair {
-            left: Target::True,
-            right: fact(1),
-        },
+        pair(fact(0), fact(1)),
+        pair(Target::False, fact(1)),
+        pair(Target::True, fact(1)),
     ];
     shows_just_one(&rows);
     rows
@@ -47,16 +47,7 @@ fn shows_just_one(rows: &[Pair])
 pub fn both_facts() -> [Pair; 2]
     ensures { BothFacts result }
 {
-    let rows = [
-        Pair {
-            left: fact(0),
-            right: fact(2),
-        },
-        Pair {
-            left: Target::True,
-            right: fact(2),
-        },
-    ];
+    let rows = [pair(fact(0), fact(2)), pair(Target::True, fact(2))];
     shows_both_facts(&rows);
     rows
 }
@@ -71,10 +62,7 @@ fn shows_both_facts(rows: &[Pair])
 pub fn turned() -> [Pair; 1]
     ensures { Turned result }
 {
-    let rows = [Pair {
-        left: fact(0),
-        right: Target::True,
-    }];
+    let rows = [pair(fact(0), Target::True)];
     shows_turned(&rows);
     rows
 }

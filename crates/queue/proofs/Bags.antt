@@ -1,19 +1,19 @@
 -- Lists with the same elements. Assumes nothing.
-use Rattle.std.proofs.Common.{List, [], ◌∷◌, ◌++◌, refl, arith}
+use Rattle.std.proofs.Common.{◌≡◌, ℕ, ◌+◌, ◌<◌, List, [], ◌∷◌, ◌++◌, length, take, set, sym, subst, arith}
 use Rattle.std.specs.List.Sorted.{IsPermutation}
-use Rattle.std.proofs.lemmas.List.Sorted.{IsPermutation-refl, IsPermutation-cons, IsPermutation-swap, IsPermutation-trans}
+use Rattle.std.proofs.lemmas.List.{take_more_set, take_at, length-take-le, length-set}
+use Rattle.std.proofs.lemmas.List.Sorted.{IsPermutation-insert, IsPermutation-sym, IsPermutation-trans, IsPermutation-to_front, length_permutation}
 
 -- the first two change places
 pub shuffled_two : {X : Type 0} (x y : X) (xs : List X) → IsPermutation (x ∷ y ∷ xs) (y ∷ x ∷ xs)
-shuffled_two x y xs = IsPermutation-swap (x ∷ y ∷ xs) (y ∷ x ∷ xs) 0 1 (omega arith) (omega arith) refl
+shuffled_two x y xs = IsPermutation-insert (y ∷ xs) 1 x
 
--- the first goes behind others
-pub shuffled_middle : {X : Type 0} (xs ys : List X) (e : X) → IsPermutation (e ∷ (xs ++ ys)) (xs ++ e ∷ ys)
-shuffled_middle [] ys e = IsPermutation-refl (e ∷ ys)
-shuffled_middle (x ∷ xs) ys e =
-    IsPermutation-trans (e ∷ x ∷ (xs ++ ys)) (x ∷ e ∷ (xs ++ ys)) (x ∷ (xs ++ e ∷ ys)) (shuffled_two e x (xs ++ ys)) (IsPermutation-cons x (e ∷ (xs ++ ys)) (xs ++ e ∷ ys) (shuffled_middle xs ys e))
-
--- the same elements behind the same
-pub shuffled_after : {X : Type 0} (ps xs ys : List X) → IsPermutation xs ys → IsPermutation (ps ++ xs) (ps ++ ys)
-shuffled_after [] xs ys s = s
-shuffled_after (a ∷ ps) xs ys s = IsPermutation-cons a (ps ++ xs) (ps ++ ys) (shuffled_after ps xs ys s)
+-- e was written behind the first n, and they were shuffled with it
+pub joined : {X : Type 0} (xs ys rest : List X) (n : ℕ) (e : X) → n < length xs → IsPermutation (take (n + 1) (set xs n e)) ys → IsPermutation (e ∷ take n xs) (take (n + 1) (ys ++ rest))
+joined xs ys rest n e free s =
+    let a = length-set xs n e in
+    let b : length (take (n + 1) (set xs n e)) ≡ n + 1 = length-take-le (n + 1) (set xs n e) (omega arith) in
+    let l = length_permutation (take (n + 1) (set xs n e)) ys s in
+    subst (λ zs. IsPermutation (e ∷ take n xs) zs) (sym (take_at ys rest (n + 1) (omega arith)))
+    (IsPermutation-trans (e ∷ take n xs) (take n xs ++ e ∷ []) ys (IsPermutation-sym (take n xs ++ e ∷ []) (e ∷ take n xs) (IsPermutation-to_front (take n xs) e))
+    (subst (λ zs. IsPermutation zs ys) (take_more_set xs n e free) s))

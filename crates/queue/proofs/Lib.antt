@@ -1,4 +1,3 @@
 pub mod Equal
 pub mod Bags
 pub mod Ranks
-pub mod Holes

@@ -1,6 +1,6 @@
 -- Bringing the kept rows to the front.
-use Rattle.std.proofs.Common.{◌≡◌, ℕ, ◌+◌, ◌<◌, ◌≤◌, true, false, cond, List, [], ◌∷◌, ◌++◌, map, length, get_or, take, drop, set, sym, refl, ap, ◌∙◌, append_assoc, append-nil, arith, drop-set-lt}
-use Rattle.std.proofs.lemmas.List.{take_more_set, drop_all}
+use Rattle.std.proofs.Common.{◌≡◌, ℕ, ◌+◌, ◌<◌, ◌≤◌, true, false, cond, List, [], ◌∷◌, ◌++◌, map, length, get_or, take, drop, set, sym, refl, ap, ◌∙◌, append_assoc, arith, drop-set-lt}
+use Rattle.std.proofs.lemmas.List.{take_more_set}
 use Rattle.std.proofs.lemmas.Bool.{cond-true, cond-false}
 use Rattle.listing.specs.declared.Record.{Record}
 use Rattle.rows.specs.declared.row.Row.{Row}
@@ -40,6 +40,3 @@ module _ (R xs : List Row) (k c : ℕ) (kx : k < length xs) (h : Compacting R k 
         rest = drop_next xs R k h.rest;
         small = let z = h.small in omega arith;
       }
-
-pub compacting_all : (R xs : List Row) (k c : ℕ) → length R ≤ k → Compacting R k c xs → map entry_of (take c xs) ≡ kept R
-compacting_all R xs k c h inv = sym (inv.done ∙ ap (λ (v : List Row). map entry_of (take c xs) ++ kept v) (drop_all k R h) ∙ append-nil (map entry_of (take c xs)))

@@ -1,13 +1,13 @@
 -- The steps of the loops.
-use Rattle.std.proofs.Common.{◌≡◌, ℕ, zero, suc, ◌+◌, ◌-◌, ◌<◌, ◌≤◌, Bool, true, false, cond, List, [], ◌∷◌, ◌++◌, map, length, get_or, take, drop, set, sym, refl, ap, ◌∙◌, subst, append_assoc, append-nil, arith, take-append-drop, drop-set-lt}
+use Rattle.std.proofs.Common.{◌≡◌, ℕ, zero, suc, ◌+◌, ◌-◌, ◌<◌, List, [], ◌∷◌, ◌++◌, map, length, get_or, take, drop, set, sym, refl, ap, ◌∙◌, subst, append_assoc, arith, drop-set-lt}
 use lib.Seq.{map-set_same}
-use Rattle.std.proofs.lemmas.List.{drop_more, take_more_set, drop-drop, drop_all, take_all}
+use Rattle.std.proofs.lemmas.List.{drop_more, take_more_set, drop-drop}
 use Rattle.rows.specs.declared.row.Row.{Row}
 use Rattle.listing.specs.declared.Target.{Target}
 use Rattle.listing.specs.declared.Target.TheVariants.{Node, False, True}
-use Rattle.rows.specs.Rows.{no_row, zero_row, Inside, AllInside}
-use Rattle.reduce.specs.Passes.{fresh, mark, number_rows, image_of, move_row, move_rows, outcome, imaged, put_image, write_back}
-use Rattle.reduce.specs.Settles.{OwnInside, part, mapped_level}
+use Rattle.rows.specs.Rows.{no_row, Inside, AllInside}
+use Rattle.reduce.specs.Passes.{image_of, move_row, move_rows, outcome, imaged, put_image, write_back}
+use Rattle.reduce.specs.Settles.{OwnInside, part}
 
 pub drop_next : (xs ys : List Row) (k : ℕ) → drop k xs ≡ drop k ys → drop (k + 1) xs ≡ drop (k + 1) ys
 drop_next xs ys k e = sym (drop-drop 1 k xs) ∙ ap (drop 1) e ∙ drop-drop 1 k ys
@@ -15,31 +15,8 @@ drop_next xs ys k e = sym (drop-drop 1 k xs) ∙ ap (drop 1) e ∙ drop-drop 1 k
 pub split_next : (xs ys : List Row) (k : ℕ) → k < length xs → drop k xs ≡ drop k ys → drop k ys ≡ get_or xs k no_row ∷ drop (k + 1) ys
 split_next xs ys k h e = sym e ∙ drop_more xs k no_row h ∙ ap (λ (v : List Row). get_or xs k no_row ∷ v) (drop_next xs ys k e)
 
-number_next : (p r : Row) (rs : List Row) (j c : ℕ) (f : Bool) → f ≡ fresh p r → number_rows p j c (r ∷ rs) ≡ mark r f (cond f c j) ∷ number_rows r (cond f c j) (cond f (c + 1) c) rs
-number_next p r rs j c f e =
-    ap (λ (b : Bool). cond b (mark r true c ∷ number_rows r c (c + 1) rs) (mark r false j ∷ number_rows r j c rs)) (sym e) ∙ by f
-  where
-    by : (f : Bool) → cond f (mark r true c ∷ number_rows r c (c + 1) rs) (mark r false j ∷ number_rows r j c rs) ≡ mark r f (cond f c j) ∷ number_rows r (cond f c j) (cond f (c + 1) c) rs
-    by true = refl
-    by false = refl
-
-pub number_again : (R xs : List Row) (k j c : ℕ) (p : Row) (f : Bool) (j' c' : ℕ) → k < length xs →
-    number_rows zero_row 0 0 R ≡ take k xs ++ number_rows p j c (drop k R) → drop k xs ≡ drop k R → f ≡ fresh p (get_or xs k no_row) → j' ≡ cond f c j → c' ≡ cond f (c + 1) c →
-    number_rows zero_row 0 0 R ≡ take (k + 1) (set xs k (mark (get_or xs k no_row) f j')) ++ number_rows (get_or xs k no_row) j' c' (drop (k + 1) R)
-number_again R xs k j c p f j' c' h a b e g d =
-    a ∙
-    ap (λ (v : List Row). take k xs ++ number_rows p j c v) (split_next xs R k h b) ∙
-    ap (λ (v : List Row). take k xs ++ v) (number_next p (get_or xs k no_row) (drop (k + 1) R) j c f e) ∙
-    (λ i. take k xs ++ (mark (get_or xs k no_row) f (sym g i) ∷ number_rows (get_or xs k no_row) (sym g i) (sym d i) (drop (k + 1) R))) ∙
-    sym (append_assoc (take k xs) (mark (get_or xs k no_row) f j' ∷ []) (number_rows (get_or xs k no_row) j' c' (drop (k + 1) R))) ∙
-    ap (λ (v : List Row). v ++ number_rows (get_or xs k no_row) j' c' (drop (k + 1) R)) (sym (take_more_set xs k (mark (get_or xs k no_row) f j') h))
-
 pub drop_again : (R xs : List Row) (k : ℕ) (v : Row) → drop k xs ≡ drop k R → drop (k + 1) (set xs k v) ≡ drop (k + 1) R
 drop_again R xs k v e = drop-set-lt (k + 1) xs k v (omega arith) ∙ drop_next xs R k e
-
-pub number_all : (R xs : List Row) (k j c : ℕ) (p : Row) → length R ≤ k → length xs ≡ length R → number_rows zero_row 0 0 R ≡ take k xs ++ number_rows p j c (drop k R) → xs ≡ number_rows zero_row 0 0 R
-number_all R xs k j c p h e a =
-    sym (a ∙ ap (λ (v : List Row). take k xs ++ number_rows p j c v) (drop_all k R h) ∙ append-nil (take k xs) ∙ take_all k xs (omega arith))
 
 -- ---- rows from a to b
 
@@ -47,9 +24,6 @@ pub part_next : (xs ys : List Row) (k b : ℕ) → k < b → k < length xs → d
 part_next xs ys k b h l e =
     ap (λ (v : List Row). take (b - k) v) (split_next xs ys k l e) ∙
     ap (λ n. take n (get_or xs k no_row ∷ drop (k + 1) ys)) (let z : b - k ≡ suc (b - (k + 1)) = omega arith in z)
-
-pub part_none : (ys : List Row) (k b : ℕ) → b ≤ k → part k b ys ≡ []
-part_none ys k b h = ap (λ n. take n (drop k ys)) (let z : b - k ≡ 0 = omega arith in z)
 
 abbrev img : Row → Target
 img r = r.image
@@ -96,13 +70,6 @@ module _ (R xs : List Row) (a b k : ℕ) (kb : k < b) (kx : k < length xs) (h : 
         inside = (subst (λ (w : List Row). AllInside (length R) w) here h.inside).1;
       }
 
-pub mapping_all : (R xs : List Row) (a b k : ℕ) → k ≡ b → Mapping R a b k xs → xs ≡ mapped_level a b R
-mapping_all R xs a b k e h =
-    sym (take-append-drop k xs) ∙
-    ap (λ (v : List Row). v ++ drop k xs) (sym (append-nil (take k xs)) ∙ ap (λ (v : List Row). take k xs ++ move_rows (image_of R) k v) (sym (part_none R k b (omega arith))) ∙ sym h.done) ∙
-    append_assoc (take a R) (move_rows (image_of R) a (part a b R)) (drop k xs) ∙
-    ap (λ (v : List Row). take a R ++ (move_rows (image_of R) a (part a b R) ++ v)) (h.rest ∙ ap (λ n. drop n R) e)
-
 -- ---- the writes
 
 abbrev bare : Row → Row
@@ -142,6 +109,3 @@ module _ (R xs : List Row) (a b k : ℕ) (kb : k < b) (kx : k < length R) (h : W
         bares = map-set_same bare xs (get_or xs k no_row).own v no_row (ap bare ev) ∙ h.bares;
         inside = (subst (λ (w : List Row). OwnInside (length R) w) there h.inside).1;
       }
-
-pub writing_all : (R xs : List Row) (a b k : ℕ) → b ≤ k → Writing R a b k xs → xs ≡ write_back R (part a b R)
-writing_all R xs a b k e h = sym (h.rest ∙ ap (write_back xs) (part_none R k b e))

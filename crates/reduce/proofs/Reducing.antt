@@ -2,7 +2,7 @@
 use Rattle.std.proofs.Common.{◌≡◌, ℕ, zero, suc, ◌+◌, ◌-◌, ◌<◌, ◌≤◌, true, false, List, [], ◌∷◌, ◌++◌, length, get_or, take, drop, sym, refl, ap, ◌∙◌, subst, ap₂, inl, inr, ⊎_elim, append_assoc, arith, length-drop, take-append-drop, length-take, get_or-take}
 use mathlib.Core.Path.{subst⁻¹}
 use Rattle.std.specs.List.Sorted.{IsPermutation}
-use Rattle.std.proofs.lemmas.List.{take-take, drop_all, drop-drop}
+use Rattle.std.proofs.lemmas.List.{take-take, drop-drop}
 use Rattle.std.proofs.lemmas.Slice.{between_is}
 use Rattle.std.proofs.lemmas.List.Edits.{get_or-between}
 use Rattle.listing.specs.declared.Target.{Target}
@@ -201,14 +201,6 @@ module _ (R xs : List Row) (n : ℕ) (root : Target) (g : Rowing n root (given 0
 
 none : (im : Target → Target) → im False ≡ False → im True ≡ True → Reduces [] [] im
 none im f t = record { at_false = f; at_true = t; numbered = tt; sorted = tt; all_replaced = λ r m. absurd m; all_replace = λ c m. absurd m }
-
-pub reducing_none : (R : List Row) (b : ℕ) → length R ≤ b → Reducing R b R
-reducing_none R b h =
-    record {
-      front = refl;
-      reduced = subst⁻¹ (λ (v : List Row). Reduces (given b v) (kept v) (image_of R)) (drop_all b R h) (none (image_of R) refl refl);
-      cut = λ x y m k. absurd (subst (λ (v : List Row). In y (given b v)) (drop_all b R h) k);
-    }
 
 root_image : (R xs : List Row) (root : Target) (n : ℕ) → 0 < length R → Rowing n root (given 0 R) → image_of xs root ≡ (get_or xs 0 no_row).image
 root_image [] xs root n h g = absurd (omega arith)

@@ -5,9 +5,9 @@ use borrow.Rule.Slice.PartMut.{put_mid}
 use Rattle.std.proofs.lemmas.List.Sorted.{length_permutation}
 use Rattle.rows.specs.declared.row.Row.{Row}
 use Rattle.rows.specs.Rows.{zero_row}
-use Rattle.reduce.specs.Passes.{image_of, move_rows, write_back}
+use Rattle.reduce.specs.Passes.{image_of, move_rows}
 use Rattle.reduce.specs.Sorts.{Arranged}
-use Rattle.reduce.specs.Settles.{OwnInside, part, mapped_level, Settled}
+use Rattle.reduce.specs.Settles.{OwnInside, part, mapped_level}
 use Rattle.reduce.proofs.Rowed.{On}
 use Rattle.reduce.proofs.Level.{own_below, number_length, move_length}
 
@@ -59,12 +59,3 @@ module _ (R X ys : List Row) (a b : ℕ) (ab : a ≤ b) (bn : b ≤ length R) (e
       (λ t m.
       let k = own_below a (image_of R) (part a b R) shuffled_M.sorted shuffled_M.shuffled t (subst (λ (v : List Row). On t v) shuffled_M.is m) in
       omega (arith, k, part_length, mid_length)))
-
-  pub settles : (after : List Row) → after ≡ write_back (put_mid a (b - a) X ys) (part a b (put_mid a (b - a) X ys)) → Settled a b R after
-  settles after e =
-      record {
-        sorted = shuffled_M.sorted;
-        shuffled = shuffled_M.shuffled;
-        ascends = shuffled_M.ascends;
-        is = e ∙ ap₂ write_back mid_is mid_part ∙ ap (λ (v : List Row). write_back (take a R ++ (v ++ drop b R)) v) shuffled_M.is;
-      }

@@ -5,7 +5,7 @@ use Rattle.listing.specs.declared.Record.{Record}
 use Rattle.listing.specs.Listing.{Listing}
 use Rattle.reduce.specs.declared.faults.LoadFault.{LoadFault}
 use Rattle.reduce.specs.declared.faults.LoadFault.TheVariants as fault
-use Rattle.reduce.specs.declared.loading.Loaded.{Loaded}
+use Rattle.listing.specs.declared.Stored.{Stored}
 use Rattle.rows.specs.declared.row.Row.{Row}
 use Rattle.rows.specs.Rows.{zero_row}
 use Rattle.rows.specs.Breaks.{Broken}
@@ -44,7 +44,7 @@ pub record Fitting (n : ℕ) (root : Target) (rs : List Record) (root' : Target)
   pub normal : Normalizes n root rs root' ys
 
 -- exactly the normal listing's records are written, in front, and root and count are told
-pub record Written (n : ℕ) (root : Target) (rs : List Record) (s : Spaces) (d : Loaded) : Type 0 where
+pub record Written (n : ℕ) (root : Target) (rs : List Record) (s : Spaces) (d : Stored) : Type 0 where
   pub records : List Record
   pub fitting : Fitting n root rs d.root records
   pub count : d.count ≡ length records
@@ -60,7 +60,7 @@ pub record Crowded (n : ℕ) (root : Target) (rs : List Record) (s : Spaces) : T
   pub lacks : length s.records < length records
 
 -- what the work on the rows of a source answers, and what it leaves of the records
-abbrev pub Works : ℕ → Target → List Record → List Record → List Record → Result Loaded LoadFault → Type 0
+abbrev pub Works : ℕ → Target → List Record → List Record → List Record → Result Stored LoadFault → Type 0
 Works n root rs space after (Ok d) =
     (ys : List Record) × Fitting n root rs d.root ys × (d.count ≡ length ys) × (length ys ≤ length space) × (after ≡ ys ++ drop (length ys) space)
 Works n root rs space after (Err fault.Facts) = ⊥
@@ -72,7 +72,7 @@ Works n root rs space after (Err fault.Space) =
 
 -- what a load of a source with these facts, root and records answers for n, and what it leaves: the first of
 -- its faults, in the order told, or the normal listing
-abbrev pub Loads : ℕ → ℕ → Target → List Record → Spaces → Result Loaded LoadFault → Type 0
+abbrev pub Loads : ℕ → ℕ → Target → List Record → Spaces → Result Stored LoadFault → Type 0
 Loads n facts root rs s (Err fault.Facts) = (facts ≢ n) × Untouched s
 Loads n facts root rs s (Err fault.Records) = (facts ≡ n) × (65535 < length rs) × Untouched s
 Loads n facts root rs s (Err (fault.Row k)) = (facts ≡ n) × (length rs ≤ 65535) × (length s.rows < length rs) × (k ≡ length s.rows) × Untouched s

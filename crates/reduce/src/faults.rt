@@ -30,12 +30,12 @@ impl From<Break> for LoadFault {
     }
 }
 
-impl LoadFault {
+impl From<LoadFault> for Report {
+    ghost from_gives = { λ fault r. r ≡ told fault };
+
     /// The fault's number, place and detail.
-    pub fn report(self) -> Report
-        ensures { result ≡ told self }
-    {
-        match self {
+    fn from(fault: LoadFault) -> Report {
+        match fault {
             LoadFault::Facts => Report {
                 number: 10,
                 place: 0,
@@ -54,7 +54,7 @@ impl LoadFault {
             LoadFault::Rule(b) => Report {
                 number: 12,
                 place: b.place,
-                detail: b.rule.number(),
+                detail: u32::from(b.rule),
             },
             LoadFault::Space => Report {
                 number: 15,

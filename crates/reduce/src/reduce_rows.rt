@@ -10,7 +10,7 @@ ghost use Rattle.reduce.specs.Contract.{Normalizes};
 
 use crate::settle::settle_level;
 use crate::starts::level_start;
-use listing::Target;
+use listing::{Stored, Target};
 use rows::row::Row;
 
 // Reduces rows that are named by their places to the normal listing, and returns its root.
@@ -21,6 +21,7 @@ fn reduce(rows: &mut [Row]) -> Target
     requires rows { (n : ℕ) × (root : Target) × Rowing n root (given 0 rows.old) }
     ensures { (n : ℕ) (root : Target) → Rowing n root (given 0 rows.old) → Normalizes n root (given 0 rows.old) result (kept rows.new) }
 {
+    // By index, from the end: settling a level reads rows of deeper ones.
     let mut b = rows.len();
     while b > 0 {
         let a = level_start(rows, b);
@@ -37,6 +38,7 @@ fn compact(rows: &mut [Row]) -> usize
 {
     let mut count: usize = 0;
     let n = rows.len();
+    // By index: rows move forward in the same slice.
     for k in 0..n {
         let r = rows[k];
         if r.first {
@@ -47,18 +49,11 @@ fn compact(rows: &mut [Row]) -> usize
     count
 }
 
-/// A normal listing's root, and in how many of the first rows its records stand.
-#[derive(Clone, Copy)]
-pub struct Reduced {
-    pub root: Target,
-    pub count: usize,
-}
-
 /// Reduces rows that are named by their places to the normal listing, which stands in the first rows after.
 /// It is public only for a crate above that made the rows: it asks that they are some, few enough for their numbers, and
 /// by the rules with places for numbers, which that crate proves. What the other rows hold after is left free.
 /// Costs O(N log N), from the sort of each level.
-pub fn normalize(rows: &mut [Row]) -> Reduced
+pub fn normalize(rows: &mut [Row]) -> Stored
     requires some { 0 < length rows.old }
     requires small { length rows.old < 2 ^ 32 }
     requires rows { (n : ℕ) × (root : Target) × Rowing n root (given 0 rows.old) }
@@ -67,5 +62,5 @@ pub fn normalize(rows: &mut [Row]) -> Reduced
 {
     let root = reduce(rows);
     let count = compact(rows);
-    Reduced { root, count }
+    Stored { root, count }
 }

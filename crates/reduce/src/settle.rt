@@ -5,7 +5,7 @@ ghost use Rattle.reduce.specs.Settles.{OwnInside, part, mapped_level, Settled};
 
 use crate::arrange::arrange_level;
 use listing::Target;
-use rows::row::{Row, same_target};
+use rows::row::Row;
 
 // The image of a target: that of the row at its place.
 pub fn image_at(rows: &[Row], t: Target) -> Target
@@ -13,13 +13,13 @@ pub fn image_at(rows: &[Row], t: Target) -> Target
     ensures { result ≡ image_of rows.now t }
 {
     match t {
-        Target::Node { level: _, number } => rows[number as usize].image,
-        Target::False => Target::False,
-        Target::True => Target::True,
+        Target::Node { number, .. } => rows[number as usize].image,
+        Target::False | Target::True => t,
     }
 }
 
 // Puts the images of their targets in the rows from a to b, and their places.
+// A level is told by its two ends: a `Range` would be cloned at each call, and its order asked all the same.
 pub fn map_level(rows: &mut [Row], a: usize, b: usize)
     requires order { a ≤ b }
     requires within { b ≤ length rows.old }
@@ -27,6 +27,7 @@ pub fn map_level(rows: &mut [Row], a: usize, b: usize)
     requires inside { AllInside (length rows.old) (part a b rows.old) }
     ensures { rows.new ≡ mapped_level a b rows.old }
 {
+    // By index: each row reads the images of other rows of the same slice.
     for k in a..b {
         let r = rows[k];
         let low = image_at(rows, r.low);
@@ -44,7 +45,7 @@ pub fn map_level(rows: &mut [Row], a: usize, b: usize)
 fn outcome_of(t: Row) -> Target
     ensures { result ≡ outcome t }
 {
-    if same_target(t.low, t.high) {
+    if t.low == t.high {
         t.low
     } else {
         Target::Node {
@@ -61,6 +62,7 @@ pub fn write_level(rows: &mut [Row], a: usize, b: usize)
     requires inside { OwnInside (length rows.old) (part a b rows.old) }
     ensures { rows.new ≡ write_back rows.old (part a b rows.old) }
 {
+    // By index: what stands at one place is written at another of the same slice.
     for k in a..b {
         let t = rows[k];
         let image = outcome_of(t);

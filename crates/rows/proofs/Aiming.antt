@@ -1,21 +1,24 @@
 -- The fifth rule of records, by the arcs of their rows.
-use Rattle.std.proofs.Common.{◌≡◌, ℕ, zero, suc, ◌+◌, ◌<◌, Bool, true, false, ◌⊎◌, List, [], ◌∷◌, map, length, get_or, take, IfSome, Some, None, Option, sym, refl, ap, ◌∙◌, subst, inl, inr, ⊎_elim, arith, MatchOption}
+use Rattle.std.proofs.Common.{◌≡◌, ℕ, zero, suc, ◌+◌, ◌<◌, Bool, true, false, ◌⊎◌, List, [], ◌∷◌, map, length, get_or, take, Some, None, Option, sym, refl, ap, ◌∙◌, subst, inl, inr, ⊎_elim, arith, MatchOption}
+use mathlib.Core.Path.{subst⁻¹}
 use Rattle.std.specs.List.{slice_get}
 use Rattle.std.proofs.lemmas.Bool.{cases_order}
 use Rattle.std.proofs.lemmas.List.{length-map}
+use Rattle.std.proofs.lemmas.Option.{slice_get_within}
 use Rattle.listing.specs.declared.Target.{Target}
 use Rattle.listing.specs.declared.Target.TheVariants.{Node, False, True}
 use Rattle.listing.specs.declared.Record.{Record}
 use Rattle.listing.specs.Members.{In}
 use Rattle.listing.specs.Listing.{node, child, Within, Above, Targeted, Aims, Reached, Aimed}
-use Rattle.listing.proofs.Rules.{Ordered}
+use Rattle.listing.proofs.Rules.{Ordered, ordered}
 use Rattle.rows.specs.declared.row.Row.{Row}
-use Rattle.rows.specs.Rows.{no_row, Inside, AllInside}
+use Rattle.rows.specs.Rows.{no_row, given, Inside, AllInside}
 use Rattle.rows.specs.Marks.{arc, bare, Named, Unnamed, AllNamed}
 use Rattle.rows.specs.Breaks.{First, Unaimed}
-use Rattle.rows.specs.Placing.{place_of, placing, placed_row, AtPlace}
-use Rattle.rows.proofs.Breaking.{in_nth, nth_in, nth_bound, nth_same}
-use Rattle.rows.proofs.Finding.{ahead_at, place_is}
+use Rattle.rows.specs.Placing.{place_of, placing, place_records, placed_row, AtPlace, Held}
+use Rattle.rows.proofs.Breaking.{in_nth, nth_in, nth_same}
+use Rattle.rows.proofs.Finding.{ahead_at, place_is, given_placed}
+use Rattle.rows.proofs.Marking.{given_bare}
 
 nth_some : {X : Type 0} (xs : List X) (i : ℕ) → i < length xs → (x : X) × (slice_get xs i ≡ Some x)
 nth_some [] i h = absurd (omega arith)
@@ -52,7 +55,7 @@ child_aims : (q r : Record) → Aims q r → (b : Bool) × (child b q ≡ node r
 child_aims q r (inl e) = (false, e)
 child_aims q r (inr e) = (true, e)
 
-pub bare_placed : (all rs : List Record) → map bare (map (placed_row all) rs) ≡ map (placed_row all) rs
+bare_placed : (all rs : List Record) → map bare (map (placed_row all) rs) ≡ map (placed_row all) rs
 bare_placed all [] = refl
 bare_placed all (r ∷ rs) = ap (λ xs. placed_row all r ∷ xs) (bare_placed all rs)
 
@@ -77,7 +80,7 @@ module _ (rs : List Record) (o : Ordered rs) (ts : Targeted rs) where
   inside_placing : (t : Target) → Within rs t → Inside (length rows) (placing rs t)
   inside_placing (Node l k) w =
       let p = in_nth w.0 rs w.1 in
-      omega (arith, many, nth_bound rs p.0 w.0 p.1, place_is rs o (Node l k) p.0 0 (w.0, p.1, w.2))
+      omega (arith, many, slice_get_within rs p.0 w.0 p.1, place_is rs o (Node l k) p.0 0 (w.0, p.1, w.2))
   inside_placing False w = tt
   inside_placing True w = tt
 
@@ -118,7 +121,7 @@ module _ (rs : List Record) (o : Ordered rs) (ts : Targeted rs) where
       let b = child_aims q r a in
       let p = in_nth q rs (take_in rs k q m) in (
         p.0,
-        omega (arith, many, nth_bound rs p.0 q p.1),
+        omega (arith, many, slice_get_within rs p.0 q p.1),
         b.0,
         r.level,
         ap (arc b.0) (getD_placed rs rs p.0 q p.1) ∙ arc_placed rs b.0 q ∙ ap (placing rs) b.1 ∙
@@ -138,21 +141,27 @@ module _ (rs : List Record) (o : Ordered rs) (ts : Targeted rs) where
       reached_from (r ∷ []) qs (λ k x e. let w = f (suc k) x (omega arith) e in (w.0, ⊎_elim (λ d. inl (inl d)) (λ m. inr m) w.1, w.2))
 
   pub aimed_named : AllNamed rows → Aimed rs
-  aimed_named h = aimed_from rs (λ k r z e. named_aims k r e (h k z (omega (arith, many, nth_bound rs k r e))))
+  aimed_named h = aimed_from rs (λ k r z e. named_aims k r e (h k z (omega (arith, many, slice_get_within rs k r e))))
 
   pub unaimed_first : (p : ℕ) → First (Unnamed rows) p → First (Unaimed rs) p
   unaimed_first p w =
       let n = nth_some rs p (omega (arith, w.0.1, many)) in (
         (n.0, n.1, w.0.0, (λ q m a. w.0.2 (aims_named p n.0 n.1 q m a))),
         (λ k l u. w.1 k l
-            (u.2, omega (arith, many, nth_bound rs k u.0 u.1), (λ v. let a = named_aims k u.0 u.1 v in u.3 a.0 a.1 a.2))),
+            (u.2, omega (arith, many, slice_get_within rs k u.0 u.1), (λ v. let a = named_aims k u.0 u.1 v in u.3 a.0 a.1 a.2))),
       )
 
--- what the rows answer, of the records
-pub aim_answer : (rs : List Record) → Ordered rs → Targeted rs → (rows : List Row) (o : Option ℕ) → rows ≡ map (placed_row rs) rs → MatchOption o (AllNamed rows) (First (Unnamed rows)) → MatchOption o (Aimed rs) (First (Unaimed rs))
-aim_answer rs o ts rows None e h = aimed_named rs o ts (subst (λ (xs : List Row). AllNamed xs) e h)
-aim_answer rs o ts rows (Some p) e h = unaimed_first rs o ts p (subst (λ (xs : List Row). First (Unnamed xs) p) e h)
+-- what the marks ask of the rows
+pub held_inside : (rs : List Record) (xs : List Row) → Held rs xs → AllInside (length xs) xs
+held_inside rs xs h = subst⁻¹ (λ (ys : List Row). AllInside (length ys) ys) h.are (inside_placed rs (ordered rs h.numbered) h.targeted)
 
-pub aim_below : (rs : List Record) (rows : List Row) (o : Option ℕ) → rows ≡ map (placed_row rs) rs → MatchOption o (AllNamed rows) (First (Unnamed rows)) → IfSome o (λ p. p < length rs)
-aim_below rs rows None e h = tt
-aim_below rs rows (Some p) e h = omega (arith, h.0.1, ap length e, length-map rs (placed_row rs))
+pub held_bare : (rs : List Record) (xs : List Row) → Held rs xs → map bare xs ≡ xs
+held_bare rs xs h = subst⁻¹ (λ (ys : List Row). map bare ys ≡ ys) h.are (bare_placed rs rs)
+
+held_given : (rs : List Record) (xs after : List Row) → Held rs xs → map bare after ≡ xs → given 0 after ≡ place_records rs 0 rs
+held_given rs xs after h e = sym (given_bare after 0) ∙ ap (given 0) (e ∙ h.are) ∙ given_placed rs rs 0
+
+-- what the rows answer, of the records
+pub aim_answer : (rs : List Record) (xs after : List Row) (o : Option ℕ) → Held rs xs → map bare after ≡ xs → MatchOption o (AllNamed xs) (First (Unnamed xs)) → MatchOption o (Aimed rs × (given 0 after ≡ place_records rs 0 rs)) (First (Unaimed rs))
+aim_answer rs xs after None h e a = (aimed_named rs (ordered rs h.numbered) h.targeted (subst (λ (ys : List Row). AllNamed ys) h.are a), held_given rs xs after h e)
+aim_answer rs xs after (Some p) h e a = unaimed_first rs (ordered rs h.numbered) h.targeted p (subst (λ (ys : List Row). First (Unnamed ys) p) h.are a)

@@ -1,17 +1,20 @@
 -- From the places that break a rule to the rule, and back.
-use Rattle.std.proofs.Common.{◌≡◌, ℕ, zero, suc, ◌<◌, ◌≤◌, Bool, true, eqb, List, [], ◌∷◌, length, Some, None, Decides, sym, refl, ap, ◌∙◌, subst, inl, inr, ⊎_elim, arith}
-use mathlib.Core.Path.{subst⁻¹}
-use Rattle.std.specs.List.{slice_get}
+use Rattle.std.proofs.Common.{◌≡◌, ℕ, zero, suc, ◌+◌, ◌-◌, ◌<◌, ◌≤◌, Bool, eqb, List, [], ◌∷◌, map, length, get_or, Some, None, Option, Ok, Err, Result, Decides, MatchOption, MatchResult, sym, refl, ap, ◌∙◌, subst, inl, inr, ⊎_elim, ◌≢◌, arith}
+use Rattle.std.specs.List.{slice_get, AllWithin, HoldsAt}
+use Rattle.std.specs.Option.{option_map}
 use Rattle.std.proofs.lemmas.Bool.{cases_Bool, both_ways}
-use Rattle.listing.specs.declared.Target.{Target}
-use Rattle.listing.specs.declared.Target.TheVariants.{Node, False, True}
+use Rattle.std.proofs.lemmas.List.{length-map}
+use Rattle.std.proofs.lemmas.Option.{slice_get-map, slice_get-get_or, slice_get_within}
 use Rattle.listing.specs.declared.Record.{Record}
 use Rattle.listing.specs.Members.{In}
-use Rattle.listing.specs.Listing.{node, names, Rooted, Levelled, Next, Follows, Numbered}
+use Rattle.listing.specs.Listing.{Levelled, Next, Follows, Numbered}
 use Rattle.listing.specs.Tests as test
 use Rattle.listing.proofs.Deciding as decides
-use Rattle.listing.proofs.Walk.{names_eq, names_node}
-use Rattle.rows.specs.Breaks.{terminal, TooHigh, Misnumbered}
+use Rattle.rows.specs.declared.row.Row.{Row}
+use Rattle.rows.specs.declared.faults.Break.{Break}
+use Rattle.rows.specs.declared.faults.Rule.{Rule}
+use Rattle.rows.specs.Rows.{no_row, entry_of}
+use Rattle.rows.specs.Breaks.{First, TooHigh, Misnumbered}
 
 -- what is decided and cannot fail holds
 pub stable : {P : Type 0} (a : Bool) → Decides a P → ((P → ⊥) → ⊥) → P
@@ -27,38 +30,31 @@ nth_in x [] k e = let z : ◌≡◌ {A = ℕ} 0 1 = cc in absurd (omega arith)
 nth_in x (y ∷ ys) zero e = let d : x ≡ y = cc in inl d
 nth_in x (y ∷ ys) (suc k) e = inr (nth_in x ys k e)
 
-pub nth_bound : {X : Type 0} (xs : List X) (i : ℕ) (x : X) → slice_get xs i ≡ Some x → i < length xs
-nth_bound [] i x e = let z : ◌≡◌ {A = ℕ} 0 1 = cc in absurd (omega arith)
-nth_bound (y ∷ xs) zero x e = omega arith
-nth_bound (y ∷ xs) (suc i) x e = omega (arith, nth_bound xs i x e)
-
 pub nth_same : {X : Type 0} (xs : List X) (i : ℕ) (x y : X) → Some x ≡ slice_get xs i → slice_get xs i ≡ Some y → x ≡ y
 nth_same xs i x y e f = cc
 
--- R1
-pub rooted_none : (t : Target) (rs : List Record) → None ≡ slice_get rs 0 → Decides (terminal t) (Rooted t rs)
-rooted_none (Node l k) [] e =
-    ((λ z. let w : ◌≡◌ {A = ℕ} 0 1 = cc in absurd (omega arith)), (λ h. absurd (⊎_elim (λ d. let w : ◌≡◌ {A = ℕ} 0 1 = cc in omega arith) (λ d. let w : ◌≡◌ {A = ℕ} 0 1 = cc in omega arith) h)))
-rooted_none False [] e = ((λ z. inl refl), (λ h. refl))
-rooted_none True [] e = ((λ z. inr refl), (λ h. refl))
-rooted_none t (r ∷ rs) e = let z : ◌≡◌ {A = ℕ} 0 1 = cc in absurd (omega arith)
+-- the record of the row at a place
+pub record_at : (rows : List Row) (k : ℕ) (d : Row) → k < length rows → slice_get (map entry_of rows) k ≡ Some (entry_of (get_or rows k d))
+record_at rows k d h = slice_get-map entry_of rows k ∙ ap (option_map entry_of) (slice_get-get_or rows k d h)
 
-pub rooted_some : (t : Target) (rs : List Record) (r : Record) → Some r ≡ slice_get rs 0 → Decides (names t r) (Rooted t rs)
-rooted_some t [] r e = let z : ◌≡◌ {A = ℕ} 0 1 = cc in absurd (omega arith)
-rooted_some t (q ∷ rs) r e =
-    let d : r ≡ q = cc in
-    subst⁻¹ (λ (x : Record). Decides (names t x) (t ≡ node q)) d
-    ((λ z. names_eq t q z), (λ h. subst⁻¹ (λ u. names u q ≡ true) h (names_node q)))
+pub row_at : (rows : List Row) (k : ℕ) (r : Record) → slice_get (map entry_of rows) k ≡ Some r → (k < length rows) × (entry_of (get_or rows k no_row) ≡ r)
+row_at rows k r e =
+    let b : k < length rows = omega (arith, slice_get_within (map entry_of rows) k r e, length-map rows entry_of) in
+    let a = record_at rows k no_row b in
+    (b, cc)
 
 -- R2
-pub levelled_from : (n : ℕ) (rs : List Record) (i : ℕ) → length rs ≤ i → ((k : ℕ) → k < i → TooHigh n rs k → ⊥) → Levelled n rs
-levelled_from n rs i h f r m =
-    let w = in_nth r rs m in
-    let no : n ≤ r.level → ⊥ = λ l. f w.0 (omega (arith, nth_bound rs w.0 r w.1)) (r, w.1, l) in
-    omega arith
-
-pub too_high_not : (n : ℕ) (rs : List Record) (i : ℕ) (r : Record) → Some r ≡ slice_get rs i → r.level < n → TooHigh n rs i → ⊥
-too_high_not n rs i r e h w = let d : r ≡ w.0 = nth_same rs i r w.0 e w.1 in omega (arith, w.2, ap (λ (x : Record). x.level) d)
+pub level_first : (n : ℕ) (rows : List Row) (o : Option ℕ) →
+    MatchOption o (AllWithin (λ (r : Row). r.level < n) rows 0 (length rows)) (λ i. (i < length rows) × HoldsAt (λ (r : Row). n ≤ r.level) rows i × AllWithin (λ (r : Row). r.level < n) rows 0 i) →
+    MatchOption o (Levelled n (map entry_of rows)) (First (TooHigh n (map entry_of rows)))
+level_first n rows None h = λ r m.
+    let w = in_nth r (map entry_of rows) m in
+    let x = row_at rows w.0 r w.1 in
+    omega (arith, h w.0 no_row (omega arith) x.0, ap (λ (q : Record). q.level) x.1)
+level_first n rows (Some p) h = (
+  (entry_of (get_or rows p no_row), record_at rows p no_row h.0, h.1 no_row),
+  (λ k l w. let x = row_at rows k w.0 w.1 in omega (arith, h.2 k no_row (omega arith) l, w.2, ap (λ (q : Record). q.level) x.1)),
+)
 
 -- R3
 follows_from : (p : Record) (rs : List Record) → ((k : ℕ) → Misnumbered (p ∷ rs) (suc k) → ⊥) → Follows p rs
@@ -70,22 +66,42 @@ pub numbered_from : (rs : List Record) (i : ℕ) → length rs ≤ i → ((k : �
 numbered_from [] i h f = tt
 numbered_from (r ∷ rs) i h f = (
   stable (eqb r.number 0) (decides.equal_numbers r.number 0) (λ n. f 0 (omega arith) (r, refl, n)),
-  follows_from r rs (λ k w. f (suc k) (omega (arith, nth_bound (r ∷ rs) (suc k) w.1 w.3)) w),
+  follows_from r rs (λ k w. f (suc k) (omega (arith, slice_get_within (r ∷ rs) (suc k) w.1 w.3)) w),
 )
 
-module _ (rs : List Record) where
-  pub misnumbered_first : (i : ℕ) (r : Record) (b : Bool) → i ≡ 0 → Some r ≡ slice_get rs i → Decides b (r.number ≡ 0 → ⊥) → Decides b (Misnumbered rs i)
-  misnumbered_first zero r b z e d = (
-    (λ t. (r, sym e, d.0 t)),
-    (λ w. d.1 (λ h. w.2 (ap (λ (x : Record). x.number) (sym (nth_same rs 0 r w.0 e w.1)) ∙ h))),
-  )
-  misnumbered_first (suc i) r b z e d = absurd (omega arith)
+abbrev AtRows : (Record → Record → Type 0) → List Row → ℕ → ℕ → Type 0
+AtRows P rows j k = P (entry_of (get_or rows j no_row)) (entry_of (get_or rows k no_row))
 
-  pub misnumbered_next : (i j : ℕ) (p r : Record) (b : Bool) → i ≡ suc j → Some p ≡ slice_get rs j → Some r ≡ slice_get rs i → Decides b (Next p r → ⊥) → Decides b (Misnumbered rs i)
-  misnumbered_next i j p r b z e f d =
-      subst⁻¹ (λ k. Decides b (Misnumbered rs k)) z (
-        (λ t. (p, r, sym e, sym (subst (λ k. Some r ≡ slice_get rs k) z f), d.0 t)),
-        (λ w. d.1 (λ h. w.4
-            (subst (λ (x : Record). Next x w.1) (nth_same rs j p w.0 e w.2)
-            (subst (λ (x : Record). Next p x) (nth_same rs (suc j) r w.1 (subst (λ k. Some r ≡ slice_get rs k) z f) w.3) h)))),
+module _ (rows : List Row) (z : 0 < length rows → (get_or rows 0 no_row).number ≡ 0) where
+  -- where a row is next to the one before it, its place does not break the rule
+  next_kept : (k : ℕ) → ((j : ℕ) → j + 1 ≡ k → k < length rows → AtRows Next rows j (j + 1)) → Misnumbered (map entry_of rows) k → ⊥
+  next_kept zero h w = let x = row_at rows 0 w.0 w.1 in w.2 (omega (arith, z x.0, ap (λ (q : Record). q.number) x.1))
+  next_kept (suc j) h w =
+      let x = row_at rows j w.0 w.2 in
+      let y = row_at rows (suc j) w.1 w.3 in
+      let d : j + 1 ≡ suc j = omega arith in
+      w.4
+      (subst (λ (q : Record). Next q w.1) x.1
+      (subst (λ (q : Record). Next (entry_of (get_or rows j no_row)) q) y.1
+      (subst (λ i. AtRows Next rows j i) d (h j d y.0))))
+
+  pub number_first : (o : Option ℕ) →
+      MatchOption o ((k : ℕ) → k + 1 < length rows → AtRows Next rows k (k + 1))
+      (λ p. (0 < p) × (p < length rows) × (AtRows Next rows (p - 1) p → ⊥) × ((k : ℕ) → k + 1 < p → AtRows Next rows k (k + 1))) →
+      MatchOption o (Numbered (map entry_of rows)) (First (Misnumbered (map entry_of rows)))
+  number_first None h = numbered_from (map entry_of rows) (length (map entry_of rows)) (omega arith) (λ k l. next_kept k (λ j e b. h j (omega arith)))
+  number_first (Some zero) h = absurd (omega (arith, h.0))
+  number_first (Some (suc p)) h =
+      let d : suc p - 1 ≡ p = omega arith in (
+        (entry_of (get_or rows p no_row), entry_of (get_or rows (suc p) no_row), record_at rows p no_row (omega (arith, h.1)), record_at rows (suc p) no_row h.1, λ n. h.2 (subst (λ i. AtRows Next rows i (suc p)) (sym d) n)),
+        (λ k l. next_kept k (λ j e b. h.3 j (omega arith))),
       )
+
+pub number_zero : (rows : List Row) → 0 < length rows → (get_or rows 0 no_row).number ≢ 0 → First (Misnumbered (map entry_of rows)) 0
+number_zero rows b n = ((entry_of (get_or rows 0 no_row), record_at rows 0 no_row b, n), (λ k l. absurd (omega arith)))
+
+-- a place that breaks a rule, told with the rule
+pub told_break : (rule : Rule) (o : Option ℕ) (P : Type 0) (Q : ℕ → Type 0) (r : Result (Unit {0}) Break) →
+    MatchResult r (λ _. o ≡ None) (λ b. (b.rule ≡ rule) × (o ≡ Some b.place)) → MatchOption o P Q → MatchResult r (λ _. P) (λ b. (b.rule ≡ rule) × Q b.place)
+told_break rule o P Q (Ok u) h a = subst (λ x. MatchOption x P Q) h a
+told_break rule o P Q (Err b) h a = (h.0, subst (λ x. MatchOption x P Q) h.1 a)

@@ -90,12 +90,6 @@ module _ (all rows : List Row) (i : ℕ) (e : map bare rows ≡ all) (h : Marks 
         (λ w. b.1 (⊎_elim (λ v. inl (a.1 (inl ((h k l).1 v)))) (λ q. ⊎_elim (λ x. inl (a.1 (inr x))) (λ y. inr y) q) (sides k w))),
       )
 
-pub marks_start : (rows : List Row) → map bare rows ≡ rows → Marks rows 0 rows
-marks_start rows e k l = (
-  (λ t. absurd (both_ways (get_or rows k no_row).first (ap (λ xs. (get_or xs k no_row).first) (sym e) ∙ ap (λ (r : Row). r.first) (getD_bare rows k)) t)),
-  (λ w. absurd (omega (arith, w.1))),
-)
-
 -- what the first unmarked place is
 pub unmarked_all : (all rows : List Row) → Marks all (length all) rows → length all ≡ length rows → ((k : ℕ) → 0 < k → k < length rows → (get_or rows k no_row).first ≡ true) → AllNamed all
 unmarked_all all rows m e f k z l = (m k l).0 (f k z (omega arith))

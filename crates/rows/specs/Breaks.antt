@@ -1,18 +1,12 @@
 -- Where a listing breaks a rule first: each rule in turn is tried over all records, from the first.
-use Rattle.std.specs.Prelude.{◌≡◌, ℕ, zero, suc, ◌<◌, ◌≤◌, Bool, true, false, List, take, Some, ◌≢◌}
+use Rattle.std.specs.Prelude.{◌≡◌, ℕ, zero, suc, ◌<◌, ◌≤◌, Bool, List, take, Some, ◌≢◌}
 use Rattle.std.specs.List.{slice_get}
 use Rattle.listing.specs.declared.Target.{Target}
-use Rattle.listing.specs.declared.Target.TheVariants.{Node, False, True}
 use Rattle.listing.specs.declared.Record.{Record}
 use Rattle.listing.specs.Members.{In}
 use Rattle.listing.specs.Listing.{child, Within, Above, Rooted, Levelled, Next, Numbered, Targeted, Aims}
 use Rattle.rows.specs.declared.faults.Rule.{Rule}
 use Rattle.rows.specs.declared.faults.Rule.TheVariants as rule
-
-abbrev pub terminal : Target → Bool
-terminal (Node l k) = false
-terminal False = true
-terminal True = true
 
 -- p is the least place of which P holds
 abbrev pub First : (ℕ → Type 0) → ℕ → Type 0

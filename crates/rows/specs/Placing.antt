@@ -1,11 +1,12 @@
 -- A listing with the places of its records for their numbers.
-use Rattle.std.specs.Prelude.{◌≡◌, ℕ, ◌+◌, false, cond, List, [], ◌∷◌, Some}
+use Rattle.std.specs.Prelude.{◌≡◌, ℕ, ◌+◌, cond, List, [], ◌∷◌, map, Some}
 use Rattle.listing.specs.declared.Target.{Target}
 use Rattle.listing.specs.declared.Target.TheVariants.{Node, False, True}
 use Rattle.listing.specs.declared.Record.{Record}
 use Rattle.std.specs.List.{slice_get}
-use Rattle.listing.specs.Listing.{node, names, Within, Above}
+use Rattle.listing.specs.Listing.{node, names, Within, Above, Numbered, Targeted}
 use Rattle.rows.specs.declared.row.Row.{Row}
+use Rattle.rows.specs.Rows.{row_of}
 
 -- the place of the record that t names, the first having place p
 abbrev pub place_of : List Record → ℕ → Target → ℕ
@@ -35,6 +36,15 @@ KeptTarget rs l t = Within rs t × Above l t
 abbrev pub KeptTargets : List Record → Record → Type 0
 KeptTargets rs r = KeptTarget rs r.level r.low × KeptTarget rs r.level r.high
 
--- the row of a record, its arcs naming places
+-- a row with places in its arcs, and the row of a record with places in its arcs
+abbrev pub placed_arcs : List Record → Row → Row
+placed_arcs rs r = record { low = placing rs r.low; high = placing rs r.high; level = r.level; number = r.number; own = r.own; first = r.first; image = r.image }
+
 abbrev pub placed_row : List Record → Record → Row
-placed_row rs r = record { low = placing rs r.low; high = placing rs r.high; level = r.level; number = 0; own = 0; first = false; image = False }
+placed_row rs r = placed_arcs rs (row_of r)
+
+-- the rows hold the records rs, which keep the third and the fourth rule, with places in their arcs
+pub record Held (rs : List Record) (rows : List Row) : Type 0 where
+  pub numbered : Numbered rs
+  pub targeted : Targeted rs
+  pub are : rows ≡ map (placed_row rs) rs

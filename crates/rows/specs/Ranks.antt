@@ -1,4 +1,4 @@
--- The order of rows: by low, then by high.
+-- The order of rows: by low, then by high; and its laws. Assumes nothing.
 use Rattle.std.specs.Prelude.{◌≡◌}
 use Rattle.std.specs.Ordering.{ordering_then, eq_by_cmp}
 use Rattle.std.specs.declared.cmp.Ordering.{Ordering}
@@ -9,6 +9,7 @@ use Rattle.listing.specs.Ranks.{rank_target, target_total, target_ties}
 use Rattle.rows.specs.declared.row.Row.{Row}
 use Rattle.rows.specs.Rows.{like}
 
+-- the derived order of rows is this one, and their derived equality is `like`
 abbrev pub rank_row : Row → Row → Ordering
 rank_row p r = ordering_then (rank_target p.low r.low) (rank_target p.high r.high)
 

@@ -17,6 +17,10 @@ no_row = record { low = Node 0 0; high = Node 0 0; level = 0; number = 0; own = 
 abbrev pub entry_of : Row → Record
 entry_of r = record { level = r.level; number = r.number; low = r.low; high = r.high }
 
+-- the row that holds a record
+abbrev pub row_of : Record → Row
+row_of r = record { low = r.low; high = r.high; level = r.level; number = r.number; own = 0; first = false; image = False }
+
 -- the records of rows, by their places from k on
 abbrev pub given : ℕ → List Row → List Record
 given k [] = []

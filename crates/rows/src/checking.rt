@@ -1,81 +1,104 @@
-// The rule check over any source: each rule in turn is tried over all records, from the first.
-// A node is found by halving, so the whole takes O(N log N).
+// The rule check over any source: its records are read once, into rows, and each rule in turn is tried over all rows,
+// from the first. A node is found by halving, so the whole takes O(N log N).
 
-ghost use Rattle.std.specs.Prelude.{◌≡◌, ◌^◌, ◌<◌, map, length, IfSome, MatchOption, MatchResult};
+ghost use Rattle.std.specs.Prelude.{◌≡◌, List, Some, None, ◌^◌, ◌<◌, map, length, IfSome, MatchResult};
+ghost use Rattle.listing.specs.declared.Record.{Record};
 ghost use Rattle.listing.specs.Listing.{Rooted, Levelled, Numbered, Targeted, Aimed, Listing};
-ghost use Rattle.rows.specs.Rows.{given};
-ghost use Rattle.rows.specs.Breaks.{First, Unaimed, Broken};
-ghost use Rattle.rows.specs.Placing.{placed_row, place_records};
+ghost use Rattle.rows.specs.Rows.{given, entry_of, row_of};
+ghost use Rattle.rows.specs.Breaks.{First, TooHigh, Misnumbered, Mistargeted, Unaimed, Broken};
+ghost use Rattle.rows.specs.Placing.{placed_row, Held, place_records};
+ghost use Rattle.rows.specs.declared.faults.Rule.TheVariants as of_rule;
 
 use crate::faults::{Break, Rule};
+use crate::filling::fill;
 use crate::marks::aim_break;
 use crate::places::target_break;
 use crate::row::Row;
 use crate::rules::{is_rooted, level_break, number_break};
+use listing::Target;
 use source::Source;
 
-// The first break of the rules of root, levels and numbers.
-fn order_break<S: Source>(source: &S) -> Option<Break>
-    requires { length (S.listed source.now) < 2 ^ 32 }
-    ensures { MatchOption result (Rooted (S.top source.now) (S.listed source.now) × Levelled (S.facts source.now) (S.listed source.now) × Numbered (S.listed source.now)) (λ b. Broken (S.facts source.now) (S.top source.now) (S.listed source.now) b.rule b.place) }
+// Refuses the place that breaks a rule, where there is one.
+fn unbroken(rule: Rule, place: Option<usize>) -> Result<(), Break>
+    requires { IfSome place (λ p. p < 2 ^ 32) }
+    ensures { MatchResult result (λ _. place ≡ None) (λ b. (b.rule ≡ rule) × (place ≡ Some b.place)) }
 {
-    if !is_rooted(source) {
-        return Some(Break {
-            rule: Rule::Root,
-            place: 0,
-        });
-    }
-    if let Some(place) = level_break(source) {
-        return Some(Break {
-            rule: Rule::Level,
+    match place {
+        Some(place) => Err(Break {
+            rule,
             place: place as u32,
-        });
+        }),
+        None => Ok(()),
     }
-    if let Some(place) = number_break(source) {
-        return Some(Break {
-            rule: Rule::Number,
-            place: place as u32,
-        });
-    }
-    None
 }
 
-// The first place whose record is no target of an earlier one, by the marks of the rows; nothing else of them is
-// changed.
-fn unaimed_place<S: Source>(source: &S, rows: &mut [Row]) -> Option<usize>
-    requires numbered { Numbered (S.listed source.now) }
-    requires targeted { Targeted (S.listed source.now) }
-    requires filled { rows.old ≡ map (placed_row (S.listed source.now)) (S.listed source.now) }
-    ensures breaks { MatchOption result (Aimed (S.listed source.now)) (First (Unaimed (S.listed source.now))) }
-    ensures below { IfSome result (λ p. p < length (S.listed source.now)) }
-    ensures rows { given 0 rows.new ≡ place_records (S.listed source.now) 0 (S.listed source.now) }
+// One function a rule: each ensures another fact, and with all of them in one body two of its exits did not prove.
+
+// The first rule, of the root.
+fn try_root(root: Target, rows: &[Row]) -> Result<(), Break>
+    ensures { MatchResult result (λ _. Rooted root (map entry_of rows.now)) (λ b. (b.rule ≡ of_rule.Root) × (Rooted root (map entry_of rows.now) → ⊥) × (b.place ≡ 0)) }
 {
-    aim_break(rows)
+    let place = if is_rooted(root, rows) { None } else { Some(0) };
+    unbroken(Rule::Root, place)
+}
+
+// The second rule, of the levels.
+fn try_levels(n: u16, rows: &[Row]) -> Result<(), Break>
+    requires { length rows.now < 2 ^ 32 }
+    ensures { MatchResult result (λ _. Levelled n (map entry_of rows.now)) (λ b. (b.rule ≡ of_rule.Level) × First (TooHigh n (map entry_of rows.now)) b.place) }
+{
+    unbroken(Rule::Level, level_break(n, rows))
+}
+
+// The third rule, of the numbers.
+fn try_numbers(rows: &[Row]) -> Result<(), Break>
+    requires { length rows.now < 2 ^ 32 }
+    ensures { MatchResult result (λ _. Numbered (map entry_of rows.now)) (λ b. (b.rule ≡ of_rule.Number) × First (Misnumbered (map entry_of rows.now)) b.place) }
+{
+    unbroken(Rule::Number, number_break(rows))
+}
+
+// The fourth rule, of the targets; it puts places in the arcs.
+fn try_targets(rows: &mut [Row]) -> Result<(), Break>
+    requires numbered { Numbered (map entry_of rows.old) }
+    requires few { length rows.old < 2 ^ 32 }
+    requires held { map row_of (map entry_of rows.old) ≡ rows.old }
+    ensures { MatchResult result (λ _. Targeted (map entry_of rows.old) × (rows.new ≡ map (placed_row (map entry_of rows.old)) (map entry_of rows.old))) (λ b. (b.rule ≡ of_rule.Target) × First (Mistargeted (map entry_of rows.old)) b.place) }
+{
+    unbroken(Rule::Target, target_break(rows))
+}
+
+// The fifth rule, of the records that are targets; it marks the rows that arcs name.
+fn try_aims(rows: &mut [Row]) -> Result<(), Break>
+    requires few { length rows.old < 2 ^ 32 }
+    requires held { (rs : List Record) × Held rs rows.old }
+    ensures { (rs : List Record) → Held rs rows.old → MatchResult result (λ _. Aimed rs × (given 0 rows.new ≡ place_records rs 0 rs)) (λ b. (b.rule ≡ of_rule.Aim) × First (Unaimed rs) b.place) }
+{
+    unbroken(Rule::Aim, aim_break(rows))
+}
+
+// Tries each rule in turn on rows that hold records.
+fn check_all(n: u16, root: Target, rows: &mut [Row]) -> Result<(), Break>
+    requires few { length rows.old < 2 ^ 32 }
+    requires held { map row_of (map entry_of rows.old) ≡ rows.old }
+    ensures { MatchResult result (λ _. Listing n root (map entry_of rows.old) × (given 0 rows.new ≡ place_records (map entry_of rows.old) 0 (map entry_of rows.old))) (λ b. Broken n root (map entry_of rows.old) b.rule b.place) }
+{
+    try_root(root, rows)?;
+    try_levels(n, rows)?;
+    try_numbers(rows)?;
+    try_targets(rows)?;
+    try_aims(rows)
 }
 
 /// The first rule that a source breaks, with the record's place; else the source's listing keeps the rules, and
 /// the rows, one a record, hold it with places for numbers. Where a rule is broken the rows hold what they hold: the
 /// load clears them. It is public only for the crate above: it asks that the records are few enough for their places to
-/// be numbers, and that there is one row for each, which that crate proves. Costs O(N log N).
+/// be numbers, and that there is one row for each, which that crate proves. Costs O(N log N); each record is read once.
 pub fn check_rules<S: Source>(source: &S, rows: &mut [Row]) -> Result<(), Break>
     requires few { length (S.listed source.now) < 2 ^ 32 }
     requires each { length rows.old ≡ length (S.listed source.now) }
     ensures { MatchResult result (λ _. Listing (S.facts source.now) (S.top source.now) (S.listed source.now) × (given 0 rows.new ≡ place_records (S.listed source.now) 0 (S.listed source.now))) (λ b. Broken (S.facts source.now) (S.top source.now) (S.listed source.now) b.rule b.place) }
 {
-    if let Some(broken) = order_break(source) {
-        return Err(broken);
-    }
-    if let Some(place) = target_break(source, rows) {
-        return Err(Break {
-            rule: Rule::Target,
-            place: place as u32,
-        });
-    }
-    if let Some(place) = unaimed_place(source, rows) {
-        return Err(Break {
-            rule: Rule::Aim,
-            place: place as u32,
-        });
-    }
-    Ok(())
+    fill(source, rows);
+    check_all(source.n(), source.root(), rows)
 }

@@ -20,12 +20,12 @@ pub struct Break {
     pub place: u32,
 }
 
-impl Rule {
+impl From<Rule> for u32 {
+    ghost from_gives = { λ rule k. k ≡ rule_number rule };
+
     /// The rule's number, 1 to 5.
-    pub fn number(self) -> u32
-        ensures { result ≡ rule_number self }
-    {
-        match self {
+    fn from(rule: Rule) -> u32 {
+        match rule {
             Rule::Root => 1,
             Rule::Level => 2,
             Rule::Number => 3,

@@ -4,6 +4,7 @@
 
 pub mod checking;
 pub mod faults;
+mod filling;
 mod marks;
 mod places;
 pub mod row;

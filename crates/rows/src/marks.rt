@@ -13,7 +13,7 @@ fn mark(rows: &mut [Row], t: Target)
     requires { Inside (length rows.old) t }
     ensures { rows.new ≡ marked t rows.old }
 {
-    if let Target::Node { level: _, number } = t {
+    if let Target::Node { number, .. } = t {
         rows[number as usize].first = true;
     }
 }
@@ -25,6 +25,7 @@ fn mark_targets(rows: &mut [Row])
     ensures bare { map bare rows.new ≡ rows.old }
     ensures marks { Marks rows.old (length rows.old) rows.new }
 {
+    // By index: the rows that are marked are others than the one whose arcs are read.
     for place in 0..rows.len() {
         let row = rows[place];
         mark(rows, row.low);
@@ -36,12 +37,7 @@ fn mark_targets(rows: &mut [Row])
 fn first_unmarked(rows: &[Row]) -> Option<usize>
     ensures { MatchOption result ((k : ℕ) → 0 < k → k < length rows.now → (slice_index_or rows.now k no_row).first ≡ true) (λ p. (0 < p) × (p < length rows.now) × ((slice_index_or rows.now p no_row).first ≡ false) × ((k : ℕ) → 0 < k → k < p → (slice_index_or rows.now k no_row).first ≡ true)) }
 {
-    for place in 1..rows.len() {
-        if !rows[place].first {
-            return Some(place);
-        }
-    }
-    None
+    rows.iter().skip(1).position(|r| !r.first).map(|p| p + 1)
 }
 
 // The first place but 0 that no arc names. Nothing but marks is changed.

@@ -1,46 +1,32 @@
-// The places of a source's nodes: where records stand in order, a node is found by halving.
-// With them rows are filled whose arcs name places, which reduction takes; that tries the fourth rule.
+// The places of nodes: where rows hold records in order, a node is found by halving. The fourth rule, which puts places
+// in the arcs.
 
 ghost use Rattle.std.specs.Prelude.{◌≡◌, ◌^◌, ◌<◌, map, length, IfSome, MatchOption};
 ghost use Rattle.listing.specs.declared.Target.TheVariants.{Node};
 ghost use Rattle.listing.specs.Listing.{Within, Numbered, Targeted};
+ghost use Rattle.rows.specs.Rows.{entry_of, row_of};
 ghost use Rattle.rows.specs.Breaks.{First, Mistargeted};
-ghost use Rattle.rows.specs.Placing.{placing, placed_row, AtPlace, KeptTarget, KeptTargets};
+ghost use Rattle.rows.specs.Placing.{placing, placed_arcs, placed_row, AtPlace, KeptTarget, KeptTargets};
 
-use crate::row::{Row, ZERO};
+use crate::row::Row;
 use listing::{Record, Target};
-use source::Source;
 
-// The place of the record of a node. The records are in order, so half of what is left is left out each time.
-fn find<S: Source>(source: &S, level: u16, number: u32) -> Option<usize>
-    requires { Numbered (S.listed source.now) }
-    ensures { MatchOption result (Within (S.listed source.now) (Node level number) → ⊥) (AtPlace (S.listed source.now) (Node level number)) }
+// The place of a node's row.
+fn find(rows: &[Row], level: u16, number: u32) -> Option<usize>
+    requires { Numbered (map entry_of rows.now) }
+    ensures { MatchOption result (Within (map entry_of rows.now) (Node level number) → ⊥) (AtPlace (map entry_of rows.now) (Node level number)) }
 {
-    let mut from = 0;
-    let mut to = source.count();
-    while from < to {
-        let mid = from + (to - from) / 2;
-        let Some(r) = source.record(mid) else {
-            return None;
-        };
-        if r.level == level && r.number == number {
-            return Some(mid);
-        }
-        if r.level < level || r.level == level && r.number < number {
-            from = mid + 1;
-        } else {
-            to = mid;
-        }
-    }
-    None
+    rows.binary_search_by_key(&Target::Node { level, number }, |r| Record::from(*r).node())
+        .ok()
 }
 
-// A target with its place for its number, absent where it is neither a terminal nor a node of the listing above
-// the level.
-fn placed<S: Source>(source: &S, level: u16, t: Target) -> Option<Target>
-    requires numbered { Numbered (S.listed source.now) }
-    requires few { length (S.listed source.now) < 2 ^ 32 }
-    ensures { MatchOption result (KeptTarget (S.listed source.now) level t → ⊥) (λ u. KeptTarget (S.listed source.now) level t × (u ≡ placing (S.listed source.now) t)) }
+// That rows are in order, and few, is asked of each: a struct that says so would have to borrow the rows that are written.
+
+// A target with its place for its number, absent where it is neither a terminal nor a node of the rows above the level.
+fn placed(rows: &[Row], level: u16, t: Target) -> Option<Target>
+    requires numbered { Numbered (map entry_of rows.now) }
+    requires few { length rows.now < 2 ^ 32 }
+    ensures { MatchOption result (KeptTarget (map entry_of rows.now) level t → ⊥) (λ u. KeptTarget (map entry_of rows.now) level t × (u ≡ placing (map entry_of rows.now) t)) }
 {
     let Target::Node { level: own, number } = t else {
         return Some(t);
@@ -48,49 +34,35 @@ fn placed<S: Source>(source: &S, level: u16, t: Target) -> Option<Target>
     if own <= level {
         return None;
     }
-    match find(source, own, number) {
-        Some(place) => Some(Target::Node {
-            level: own,
-            number: place as u32,
-        }),
-        None => None,
-    }
-}
-
-// The row of a record, absent where a target breaks the fourth rule.
-fn row_of<S: Source>(source: &S, r: Record) -> Option<Row>
-    requires numbered { Numbered (S.listed source.now) }
-    requires few { length (S.listed source.now) < 2 ^ 32 }
-    ensures { MatchOption result (KeptTargets (S.listed source.now) r → ⊥) (λ row. KeptTargets (S.listed source.now) r × (row ≡ placed_row (S.listed source.now) r)) }
-{
-    let Some(low) = placed(source, r.level, r.low) else {
-        return None;
-    };
-    let Some(high) = placed(source, r.level, r.high) else {
-        return None;
-    };
-    Some(Row {
-        level: r.level,
-        low,
-        high,
-        ..ZERO
+    let place = find(rows, own, number)?;
+    Some(Target::Node {
+        level: own,
+        number: place as u32,
     })
 }
 
-// Fills the rows, one a record, with records whose arcs name places; the first place whose record breaks the
-// fourth rule ends it.
-pub fn target_break<S: Source>(source: &S, rows: &mut [Row]) -> Option<usize>
-    requires numbered { Numbered (S.listed source.now) }
-    requires few { length (S.listed source.now) < 2 ^ 32 }
-    requires each { length rows.old ≡ length (S.listed source.now) }
-    ensures breaks { MatchOption result (Targeted (S.listed source.now) × (rows.new ≡ map (placed_row (S.listed source.now)) (S.listed source.now))) (First (Mistargeted (S.listed source.now))) }
-    ensures below { IfSome result (λ p. p < length (S.listed source.now)) }
+// A row with places in its arcs, absent where an arc breaks the fourth rule.
+fn placed_in(rows: &[Row], row: Row) -> Option<Row>
+    requires numbered { Numbered (map entry_of rows.now) }
+    requires few { length rows.now < 2 ^ 32 }
+    ensures { MatchOption result (KeptTargets (map entry_of rows.now) (entry_of row) → ⊥) (λ r. KeptTargets (map entry_of rows.now) (entry_of row) × (r ≡ placed_arcs (map entry_of rows.now) row)) }
 {
+    let low = placed(rows, row.level, row.low)?;
+    let high = placed(rows, row.level, row.high)?;
+    Some(Row { low, high, ..row })
+}
+
+// Puts places in the arcs of rows that hold records; the first place whose record breaks the fourth rule ends it.
+pub fn target_break(rows: &mut [Row]) -> Option<usize>
+    requires numbered { Numbered (map entry_of rows.old) }
+    requires few { length rows.old < 2 ^ 32 }
+    requires held { map row_of (map entry_of rows.old) ≡ rows.old }
+    ensures breaks { MatchOption result (Targeted (map entry_of rows.old) × (rows.new ≡ map (placed_row (map entry_of rows.old)) (map entry_of rows.old))) (First (Mistargeted (map entry_of rows.old))) }
+    ensures below { IfSome result (λ p. p < length rows.old) }
+{
+    // By index: nodes are searched in the rows that are written.
     for place in 0..rows.len() {
-        let Some(r) = source.record(place) else {
-            return None;
-        };
-        let Some(row) = row_of(source, r) else {
+        let Some(row) = placed_in(rows, rows[place]) else {
             return Some(place);
         };
         rows[place] = row;

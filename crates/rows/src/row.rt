@@ -1,28 +1,32 @@
-ghost use Rattle.std.specs.Prelude.{◌≡◌, Some, refl};
-ghost use Rattle.listing.specs.Tests.{same_target};
-ghost use Rattle.listing.specs.Ranks.{rank_target};
-ghost use Rattle.rows.specs.Rows.{entry_of, like};
-ghost use Rattle.rows.specs.Ranks.{rank_row, row_total, row_ties, row_equiv};
-ghost use Rattle.std.specs.Cmp.{partial_equiv_from_equiv, partial_order_from_agreeing_total};
+ghost use Rattle.std.specs.Prelude.{◌≡◌};
+ghost use Rattle.rows.specs.Rows.{entry_of, row_of};
 
 use listing::{Record, Target};
-use std::cmp::Ordering;
 
 /// A work row: a record in the making, its arcs, and what the passes over a level note of it.
+/// Rows are equal, and ordered, by their arcs alone: by low, then by high.
+// Arcs may name rows by their places: rows lie in the caller's slice, and the library has no heap.
 // While a level is settled: all fields but `image` belong to the row that stands here after the sort;
 // `image` belongs to the row that stood here at entry.
 #[derive(Clone, Copy)]
+#[derive_where(PartialEq, Eq, PartialOrd, Ord)]
 pub struct Row {
     pub low: Target,
     pub high: Target,
+    #[derive_where(skip(EqHashOrd))]
     pub level: u16,
+    #[derive_where(skip(EqHashOrd))]
     pub number: u32,
+    #[derive_where(skip(EqHashOrd))]
     pub own: u32,
+    #[derive_where(skip(EqHashOrd))]
     pub first: bool,
+    #[derive_where(skip(EqHashOrd))]
     pub image: Target,
 }
 
 /// The row of zeros.
+// A constant, which no `default()` is plainer than: arrays of rows and struct updates are written with it.
 pub const ZERO: Row = Row {
     low: Target::False,
     high: Target::False,
@@ -33,72 +37,31 @@ pub const ZERO: Row = Row {
     image: Target::False,
 };
 
-impl Row {
-    /// The record that this row describes.
-    pub fn record(self) -> Record
-        ensures { result ≡ entry_of self }
-    {
-        Record {
-            level: self.level,
-            number: self.number,
-            low: self.low,
-            high: self.high,
+impl From<Record> for Row {
+    ghost from_gives = { λ r row. row ≡ row_of r };
+
+    /// The row that holds a record.
+    fn from(r: Record) -> Row {
+        Row {
+            low: r.low,
+            high: r.high,
+            level: r.level,
+            number: r.number,
+            ..ZERO
         }
     }
 }
 
-/// Whether two targets are the same. It is public for the crate above, which settles rows by it.
-pub fn same_target(a: Target, b: Target) -> bool
-    ensures { result ≡ same_target a b }
-{
-    a == b
-}
+impl From<Row> for Record {
+    ghost from_gives = { λ row r. r ≡ entry_of row };
 
-// How two targets compare.
-fn rank_target(a: Target, b: Target) -> Ordering
-    ensures { result ≡ rank_target a b }
-{
-    a.cmp(&b)
-}
-
-impl PartialEq for Row {
-    ghost eq = { λ p r. like p r };
-
-    ghost laws = { partial_equiv_from_equiv row_equiv };
-
-    fn eq(&self, other: &Row) -> bool {
-        same_target(self.low, other.low) && same_target(self.high, other.high)
-    }
-}
-
-impl Eq for Row {
-    ghost laws = { row_equiv };
-}
-
-impl PartialOrd for Row {
-    ghost partial_cmp = { λ p r. Some (rank_row p r) };
-
-    ghost laws = { partial_order_from_agreeing_total rank_row row_total (λ _ _. refl) row_ties };
-
-    fn partial_cmp(&self, other: &Row) -> Option<Ordering> {
-        Some(self.cmp(other))
-    }
-}
-
-impl Ord for Row {
-    ghost cmp = { λ p r. rank_row p r };
-
-    ghost total = { row_total };
-
-    ghost matches_partial_cmp = { λ _ _. refl };
-
-    ghost matches_eq = { row_ties };
-
-    fn cmp(&self, other: &Row) -> Ordering {
-        match rank_target(self.low, other.low) {
-            Ordering::Less => Ordering::Less,
-            Ordering::Equal => rank_target(self.high, other.high),
-            Ordering::Greater => Ordering::Greater,
+    /// The record that a row describes.
+    fn from(row: Row) -> Record {
+        Record {
+            level: row.level,
+            number: row.number,
+            low: row.low,
+            high: row.high,
         }
     }
 }

@@ -1,25 +1,18 @@
 // Texts made normal: what comes out for a table of inputs.
 
 use listing::{Record, Target};
-use normalizing::texts::normal_bytes;
+use normalizing::texts::{MOST_BYTES, MOST_RECORDS, normal_bytes};
 use rows::row::ZERO;
 use source::records::Records;
 use text_writing::writing::write;
 
-const NO_RECORD: Record = Record {
-    level: 0,
-    number: 0,
-    low: Target::False,
-    high: Target::False,
-};
-
 // Whether the bytes that come out for an input are those wanted.
 fn gives(input: &[u8], wanted: &[u8]) -> bool {
-    let mut rows = [ZERO; 515];
-    let mut records = [NO_RECORD; 515];
-    let mut output = [0u8; 15_986];
+    let mut rows = [ZERO; MOST_RECORDS];
+    let mut records = [Record::default(); MOST_RECORDS];
+    let mut output = [0u8; MOST_BYTES];
     match normal_bytes(input, &mut rows, &mut records, &mut output) {
-        Ok(len) => len <= 15_986 && &output[0..len] == wanted,
+        Ok(len) => output.get(..len) == Some(wanted),
         Err(_) => false,
     }
 }
@@ -106,50 +99,18 @@ fn other_faults_are_told(rt: HostRuntime) {
     assert!(rt; gives(b" 513     0 513     0\n", b"     1     0     0\n"));
 }
 
+// A node by its level and its number there.
+fn node(level: u16, number: u32) -> Target {
+    Target::Node { level, number }
+}
+
 // The record at a place of a normal listing over 512 facts with 515 records: two on the levels 1 to 3.
 fn chained(place: u16) -> Record {
     match place {
-        0 => pair(
-            0,
-            Target::Node {
-                level: 1,
-                number: 1,
-            },
-            Target::Node {
-                level: 1,
-                number: 0,
-            },
-        ),
-        1 => pair(
-            1,
-            Target::Node {
-                level: 2,
-                number: 1,
-            },
-            Target::Node {
-                level: 2,
-                number: 0,
-            },
-        ),
-        3 => pair(
-            2,
-            Target::Node {
-                level: 3,
-                number: 1,
-            },
-            Target::Node {
-                level: 3,
-                number: 0,
-            },
-        ),
-        5 => pair(
-            3,
-            Target::False,
-            Target::Node {
-                level: 4,
-                number: 0,
-            },
-        ),
+        0 => pair(0, node(1, 1), node(1, 0)),
+        1 => pair(1, node(2, 1), node(2, 0)),
+        3 => pair(2, node(3, 1), node(3, 0)),
+        5 => pair(3, Target::False, node(4, 0)),
         2 | 4 | 6 => Record {
             level: place / 2,
             number: 1,
@@ -160,10 +121,7 @@ fn chained(place: u16) -> Record {
         _ => pair(
             place.saturating_sub(3),
             Target::False,
-            Target::Node {
-                level: place.saturating_sub(2),
-                number: 0,
-            },
+            node(place.saturating_sub(2), 0),
         ),
     }
 }
@@ -178,30 +136,22 @@ fn pair(level: u16, low: Target, high: Target) -> Record {
 }
 
 fn chain(records: &mut [Record]) {
-    let mut place = 0u16;
-    for r in records.iter_mut() {
+    for (r, place) in records.iter_mut().zip(0..=u16::MAX) {
         *r = chained(place);
-        place = place.saturating_add(1);
     }
 }
 
 #[test]
 fn the_longest_input_passes(rt: HostRuntime) {
-    let mut records = [NO_RECORD; 515];
+    let mut records = [Record::default(); MOST_RECORDS];
     chain(&mut records);
     let listing = Records {
         n: 512,
-        root: Target::Node {
-            level: 0,
-            number: 0,
-        },
+        root: node(0, 0),
         records: &records,
     };
     let mut longest = [b' '; 15_986];
-    match write(&listing, &mut longest) {
-        Ok(len) => assert!(rt; len == 15_986),
-        Err(_) => assert!(rt; false),
-    }
+    assert!(rt; write(&listing, &mut longest) == Ok(15_986));
     assert!(rt; gives(&longest, &longest), "515 records");
     assert!(rt;
         gives(&[b' '; 15_987], b"    19     0     0\n"),

@@ -4,11 +4,9 @@ use queue::{Element, Queue};
 use queue_front::FrontSlot;
 use queue_heap::BinaryHeap;
 
-const BLANK: Element<u64, u8> = Element { key: 0, carried: 0 };
-
 #[test]
 fn a_stack_of_queues_keeps_order(rt: HostRuntime) {
-    let mut slots = [BLANK; 2];
+    let mut slots = [Element::default(); 2];
     let mut queue = FrontSlot::new(FrontSlot::new(BinaryHeap::new(&mut slots)));
     assert!(rt; queue.capacity() == 4);
     assert!(rt; queue.put(7, 1).is_ok());
@@ -19,19 +17,16 @@ fn a_stack_of_queues_keeps_order(rt: HostRuntime) {
         Ok(()) => assert!(rt; false),
         Err(refused) => assert!(rt; refused.element.key == 5 && refused.element.carried == 5),
     }
-    assert!(rt; next_key(queue.take()) == 3);
-    assert!(rt; next_key(queue.look()) == 3);
-    assert!(rt; next_key(queue.take()) == 3);
-    assert!(rt; next_key(queue.take()) == 7);
-    assert!(rt; next_key(queue.take()) == 9);
+    assert!(rt; key_of(queue.take()) == Some(3));
+    assert!(rt; key_of(queue.look()) == Some(3));
+    assert!(rt; key_of(queue.take()) == Some(3));
+    assert!(rt; key_of(queue.take()) == Some(7));
+    assert!(rt; key_of(queue.take()) == Some(9));
     assert!(rt; queue.is_empty());
     assert!(rt; queue.take().is_none());
 }
 
-// The key of an answer, 0 where there is none.
-fn next_key(answer: Option<Element<u64, u8>>) -> u64 {
-    match answer {
-        Some(element) => element.key,
-        None => 0,
-    }
+// The key of an answer, where there is one.
+fn key_of(answer: Option<Element<u64, u8>>) -> Option<u64> {
+    answer.map(|element| element.key)
 }

@@ -1,3 +1,4 @@
 pub mod Places
 pub mod Exchanging
 pub mod Levels
+pub mod Left

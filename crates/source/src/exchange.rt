@@ -29,27 +29,9 @@ fn swapped_record(r: Record) -> Record
     ensures { result ≡ exchanged_record r }
 {
     Record {
-        level: r.level,
-        number: r.number,
         low: swapped(r.low),
         high: swapped(r.high),
-    }
-}
-
-// As many records as below.
-fn count_of<S: Source>(below: &S) -> usize
-    ensures { result ≡ length (map exchanged_record (S.listed below.now)) }
-{
-    below.count()
-}
-
-// The record at a place below, exchanged.
-fn record_of<S: Source>(below: &S, place: usize) -> Option<Record>
-    ensures { result ≡ slice_get (map exchanged_record (S.listed below.now)) place }
-{
-    match below.record(place) {
-        Some(r) => Some(swapped_record(r)),
-        None => None,
+        ..r
     }
 }
 
@@ -69,11 +51,11 @@ impl<S: Source> Source for Exchanged<S> {
     }
 
     fn count(&self) -> usize {
-        count_of(&self.below)
+        self.below.count()
     }
 
     fn record(&self, place: usize) -> Option<Record> {
-        record_of(&self.below, place)
+        self.below.record(place).map(swapped_record)
     }
 }
 

@@ -14,9 +14,12 @@ pub mod counting;
 pub mod exchange;
 pub mod records;
 pub mod references;
+pub mod walking;
 
 /// Tells a listing. Asking changes nothing.
 pub trait Source {
+    // Three members, and no record of them: the definitions speak of a listing's parts, which listings in slices have too.
+
     // the number of facts
     ghost facts: { Self → ℕ };
 

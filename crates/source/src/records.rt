@@ -1,8 +1,5 @@
 // A source over records in the caller's slice.
 
-ghost use Rattle.std.specs.Prelude.{◌≡◌};
-ghost use Rattle.std.specs.List.{slice_get};
-
 use crate::Source;
 use listing::{Record, Target};
 
@@ -34,13 +31,6 @@ impl<'a> Source for Records<'a> {
     }
 
     fn record(&self, place: usize) -> Option<Record> {
-        record_at(self.records, place)
+        self.records.get(place).copied()
     }
-}
-
-// The element at a place.
-fn record_at(records: &[Record], place: usize) -> Option<Record>
-    ensures { result ≡ slice_get records.now place }
-{
-    records.get(place).copied()
 }

@@ -7,7 +7,8 @@ use Rattle.std.proofs.lemmas.Bool.{cases_Bool, cond-true, cond-false, true≢fal
 use Rattle.listing.specs.declared.Target.{Target}
 use Rattle.listing.specs.Members.{In}
 use Rattle.queue.specs.declared.Element.{Element}
-use Rattle.rows.proofs.Breaking.{nth_bound, nth_same}
+use Rattle.std.proofs.lemmas.Option.{slice_get_within}
+use Rattle.rows.proofs.Breaking.{nth_same}
 use Rattle.pairs.specs.declared.Pair.{Pair}
 use Rattle.pairs.specs.Pairs.{Run, Sides, kid, opens, Open, Ahead}
 use Rattle.pairs.specs.Rows.{Ascending, Rows, Arc, arc, arcs, beyond, waiting}
@@ -109,7 +110,7 @@ module _ {K : Type 0} (r : Run) (keyed : Pair → K) (ps : List Pair) (space roo
   pub waits_row : (y : Element K Request) → In y ws → y.carried.row < k
   waits_row y m =
       let d = waits_arc y m in
-      omega (arith, ap (λ (x : Element K Request). x.carried.row) d.is, d.parent.row, nth_bound ys d.parent.place d.parent.pair d.parent.at, v.count)
+      omega (arith, ap (λ (x : Element K Request). x.carried.row) d.is, d.parent.row, slice_get_within ys d.parent.place d.parent.pair d.parent.at, v.count)
 
   module _ (rank : K → K → Ordering) (orders : Orders r keyed rank) (e : Element K Request) (n : Next r keyed ps space room ok w k ys ws v rank orders e) (us : List (Element K Request)) (d : Drained rank e.key ws us) where
     waited : (y : Element K Request) → In y d.gone → In y ws

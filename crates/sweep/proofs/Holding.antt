@@ -14,7 +14,7 @@ use Rattle.rows.proofs.Breaking.{nth_in, nth_same}
 use Rattle.pairs.specs.declared.Pair.{Pair}
 use Rattle.pairs.specs.Pairs.{Run, Sides, level, kid, opens, verdict, Open}
 use Rattle.pairs.specs.Rows.{Rows}
-use Rattle.pairs.specs.Records.{terminal}
+use Rattle.listing.specs.Listing.{terminal}
 use Rattle.pairs.proofs.Pairs.{kid_ahead}
 use Rattle.sweep.specs.declared.faults.Request.{Request}
 use Rattle.sweep.specs.Requests.{pointed}

@@ -1,20 +1,23 @@
 -- Where the records of a level stand, and what a read of one tells.
-use Rattle.std.proofs.Common.{◌≡◌, ℕ, zero, suc, ◌+◌, ◌<◌, ◌≤◌, Bool, true, false, ◌⊎◌, List, [], ◌∷◌, length, Some, None, Option, sym, refl, ap, ◌∙◌, subst, inl, inr, ⊎_elim, arith}
+use Rattle.std.proofs.Common.{◌≡◌, ℕ, zero, suc, ◌+◌, ◌-◌, ◌<◌, ◌≤◌, Bool, true, false, ◌⊎◌, List, [], ◌∷◌, length, drop, get_or, Some, None, Option, sym, refl, ap, ◌∙◌, subst, inl, inr, ⊎_elim, arith}
 use mathlib.Core.Path.{subst⁻¹}
-use Rattle.std.specs.List.{slice_get}
-use Rattle.std.proofs.lemmas.Bool.{cases_eq, eqb-true, cond-true, cond-false}
+use Rattle.std.specs.List.{slice_get, AllWithin, HoldsAt}
+use Rattle.std.specs.Option.{MatchOption}
+use Rattle.std.proofs.lemmas.List.{get_or-drop, length-drop}
+use Rattle.std.proofs.lemmas.Option.{slice_get_cases, get_or_from_slice_get, slice_get_within}
+use Rattle.std.proofs.lemmas.Bool.{cases_eq, cases_lt, eqb-true, cond-true, cond-false}
 use Rattle.listing.specs.declared.Target.{Target}
 use Rattle.listing.specs.declared.Target.TheVariants.{Node, False, True}
 use Rattle.listing.specs.declared.Record.{Record}
 use Rattle.listing.specs.Listing.{child, Within, Follows, Numbered, Listing}
 use Rattle.listing.proofs.Walk.{lev, num}
 use Rattle.listing.proofs.Rules.{ordered, chain}
-use Rattle.rows.proofs.Breaking.{in_nth, nth_bound, nth_same}
+use Rattle.rows.proofs.Breaking.{in_nth, nth_same}
 use Rattle.rows.proofs.Finding.{ahead_at}
 use Rattle.pairs.specs.declared.Fixed.{Fixed}
 use Rattle.pairs.specs.Pairs.{leads, on, fixing}
 use Rattle.pairs.proofs.Sides.{leads_of}
-use Rattle.sweep.specs.Reading.{Passed, Starts, StartsFor}
+use Rattle.sweep.specs.Reading.{Passed, Starts, StartsFor, Reached}
 
 -- levels never fall
 level_at : (rs : List Record) → Numbered rs → (i j : ℕ) (a b : Record) → i ≤ j → slice_get rs i ≡ Some a → slice_get rs j ≡ Some b → a.level ≤ b.level
@@ -34,16 +37,33 @@ starts_here rs o l p r h e k = record { passed = h; reached = λ j x i f. let z 
 
 -- where there is no such record, the level starts behind the last
 pub starts_end : (rs : List Record) (l p : ℕ) → Passed rs l p → length rs ≤ p → Starts rs l p
-starts_end rs l p h k = record { passed = h; reached = λ j x i f. absurd (omega (arith, nth_bound rs j x f)) }
+starts_end rs l p h k = record { passed = h; reached = λ j x i f. absurd (omega (arith, slice_get_within rs j x f)) }
 
--- one more place is passed
-pub passed_more : (rs : List Record) (l p : ℕ) (r : Record) → Passed rs l p → Some r ≡ slice_get rs p → r.level < l → Passed rs l (p + 1)
-passed_more rs l p r h e k j x i f = ⊎_elim (λ d. here d) (λ d. h j x (omega arith) f) (cases_eq j p)
+-- a walk on from place f passes the places whose levels are lower
+pub passed_found : (rs : List Record) (l f i : ℕ) → Passed rs l f → AllWithin (λ (r : Record). r.level < l) (drop f rs) 0 i → Passed rs l (f + i)
+passed_found rs l f i h w k r b e = ⊎_elim (λ c. h k r c e) (λ c. subst (λ (x : Record). x.level < l) (same c) (w (k - f) r (omega arith) (omega arith))) (cases_lt k f)
   where
-    here : j ≡ p → x.level < l
-    here d =
-        let q : r ≡ x = nth_same rs p r x e (subst (λ m. slice_get rs m ≡ Some x) d f) in
-        omega (arith, ap (λ (y : Record). y.level) q)
+    same : f ≤ k → get_or (drop f rs) (k - f) r ≡ r
+    same c = let j : f + (k - f) ≡ k = omega arith in get_or-drop f rs (k - f) r ∙ ap (λ m. get_or rs m r) j ∙ get_or_from_slice_get rs k r r e
+
+-- the first place behind f whose level is not lower, counted from f, if there is one
+abbrev pub Found : List Record → ℕ → ℕ → Option ℕ → Type 0
+Found rs l f o =
+    MatchOption o (AllWithin (λ (r : Record). r.level < l) (drop f rs) 0 (length (drop f rs)))
+    (λ i. (i < length (drop f rs)) × HoldsAt (λ (r : Record). l ≤ r.level) (drop f rs) i × AllWithin (λ (r : Record). r.level < l) (drop f rs) 0 i)
+
+-- the level starts there
+pub starts_found : (rs : List Record) → Numbered rs → (l f i : ℕ) → Passed rs l f → Found rs l f (Some i) → Starts rs l (f + i)
+starts_found rs o l f i h w = ⊎_elim here (λ c. absurd (omega (arith, c.0, length-drop f rs, w.0))) (slice_get_cases rs (f + i)).1
+  where
+    here : (x : Record) × (f + i < length rs) × (slice_get rs (f + i) ≡ Some x) × (get_or rs (f + i) x ≡ x) → Starts rs l (f + i)
+    here x = starts_here rs o l (f + i) x.0 (passed_found rs l f i h w.2) (sym x.2) (subst (λ (r : Record). l ≤ r.level) (get_or-drop f rs i x.0 ∙ x.3) (w.1 x.0))
+
+-- and behind the last where there is none
+pub starts_nowhere : (rs : List Record) (l f : ℕ) → f ≤ length rs → Passed rs l f → Found rs l f None → Starts rs l (length rs)
+starts_nowhere rs l f b h w =
+    let j : f + length (drop f rs) ≡ length rs = omega (arith, length-drop f rs) in
+    starts_end rs l (length rs) (subst (Passed rs l) j (passed_found rs l f (length (drop f rs)) h w)) (omega arith)
 
 -- what is passed for a level is passed for a higher one
 pub passed_up : (rs : List Record) (l m p : ℕ) → l ≤ m → Passed rs l p → Passed rs m p
@@ -100,7 +120,7 @@ module _ (n : ℕ) (root : Target) (rs : List Record) (ls : Listing n root rs) (
       subst (λ j. slice_get rs j ≡ Some w.0) (number_at rs ls.numbered i.0 w.0 i.1 l p d s ∙ ap (λ m. p + m) e) i.1
 
   pub node_bound : p + k < length rs
-  node_bound = nth_bound rs (p + k) w.0 node_at
+  node_bound = slice_get_within rs (p + k) w.0 node_at
 
   -- what is read there is the node's record
   pub lead_some : (b : Bool) (r : Record) → Some r ≡ slice_get rs (p + k) → child b r ≡ leads rs b (Node l k)
@@ -157,3 +177,10 @@ fixed_off rs o f t e h = subst⁻¹ (λ x. t ≡ fixing rs x t) e (sym (cond-fal
 pub fixed_none : (rs : List Record) (o : Option Fixed) (t : Target) → o ≡ None → t ≡ fixing rs o t
 unfolding fixing
 fixed_none rs o t e = subst⁻¹ (λ x. t ≡ fixing rs x t) e refl
+
+-- a place that is reached for a level is reached for a higher one
+pub reached_up : (rs : List Record) (l m p : ℕ) → l ≤ m → Reached rs l p → Reached rs m p
+reached_up rs l m p h k = record { passed = passed_up rs l m p h k.passed; bound = k.bound }
+
+pub reached_none : (rs : List Record) (l : ℕ) → Reached rs l 0
+reached_none rs l = record { passed = passed_none rs l; bound = omega arith }

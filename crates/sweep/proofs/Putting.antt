@@ -14,4 +14,4 @@ module _ (room n row : ℕ) (low high : Child) (xs us ys : List (Element PairKey
   -- high is put where low was
   pub put_high : (res : Result (Unit {0}) RunFault) → PutArc room n row true high us ys res → PutArcs room n row low high xs ys res
   put_high (Ok u) h = (h.0, IsPermutation-trans _ (put_for n row true high ++ us) _ (shuffled_after (put_for n row true high) _ _ s) h.1)
-  put_high (Err f) h = record { side = true; wanted = h.0; full = h.1 ∙ length_permutation _ _ s; is = h.2 }
+  put_high (Err f) h = record { side = true; pair = h.0; wanted = h.1; full = h.2 ∙ length_permutation _ _ s; is = h.3 }

@@ -3,21 +3,21 @@ use Rattle.std.proofs.Common.{◌≡◌, ℕ, zero, suc, ◌+◌, ◌<◌, ◌�
 use Rattle.std.specs.List.{slice_get}
 use Rattle.std.proofs.lemmas.Bool.{cases_Bool, cond-true, cond-false}
 use Rattle.std.proofs.lemmas.List.{length-map, length-take-le}
-use Rattle.std.proofs.lemmas.Option.{slice_get-get_or}
+use Rattle.std.proofs.lemmas.Option.{slice_get-get_or, slice_get_within}
 use Rattle.listing.specs.declared.Target.TheVariants.{Node}
 use Rattle.listing.specs.declared.Record.{Record}
-use Rattle.listing.specs.Listing.{child}
+use Rattle.listing.specs.Listing.{child, terminal}
 use Rattle.listing.proofs.Rules.{Ordered, ordered}
 use Rattle.rows.specs.declared.row.Row.{Row}
 use Rattle.rows.specs.Rows.{no_row, given}
 use Rattle.rows.specs.Marks.{arc}
 use Rattle.rows.specs.Placing.{placing, place_records}
-use Rattle.rows.proofs.Breaking.{in_nth, nth_in, nth_bound, nth_same}
+use Rattle.rows.proofs.Breaking.{in_nth, nth_in, nth_same}
 use Rattle.rows.proofs.Finding.{place_is}
 use Rattle.pairs.specs.declared.Pair.{Pair}
 use Rattle.pairs.specs.Pairs.{Run, Sides, level, kid, opens, verdict, Open}
 use Rattle.pairs.specs.Rows.{Rows, by_arc}
-use Rattle.pairs.specs.Records.{place, terminal, name, row, records_of}
+use Rattle.pairs.specs.Records.{place, name, row, records_of}
 use Rattle.pairs.proofs.RowsList.{rows_list}
 use Rattle.sweep.proofs.Holding.{Holding, RowHolds}
 
@@ -48,7 +48,7 @@ nth_map f (y ∷ xs) (suc j) x e = nth_map f xs j x e
 
 take_nth : (n : ℕ) (rows : List Row) (j : ℕ) (w : Row) → n ≤ length rows → slice_get (take n rows) j ≡ Some w → (j < n) × (w ≡ get_or rows j no_row)
 take_nth n rows j w l e =
-    let b : j < n = omega (arith, nth_bound (take n rows) j w e, length-take-le n rows l) in
+    let b : j < n = omega (arith, slice_get_within (take n rows) j w e, length-take-le n rows l) in
     let z : slice_get (take n rows) j ≡ Some (get_or (take n rows) j no_row) = slice_get-get_or (take n rows) j no_row (omega (arith, length-take-le n rows l)) in
     let y : w ≡ get_or (take n rows) j no_row = nth_same (take n rows) j w (get_or (take n rows) j no_row) (sym e) z in
     (b, y ∙ get_or-take n rows j no_row b)
@@ -92,7 +92,7 @@ module _ (r : Run) (ok : Sides r) (ps : List Pair) (w : Rows r ps) where
         yes_open o =
             let s = w.sound q (nth_in q ps j e) in
             let i = in_nth (kid r b q) ps (w.full (kid r b q) (by_arc q b s.0 s.1 refl) o) in
-            v.aimed b i.0 (nth_bound ps i.0 (kid r b q) i.1) i.1 ∙ sym (placing_open (kid r b q) i.0 i.1 o)
+            v.aimed b i.0 (slice_get_within ps i.0 (kid r b q) i.1) i.1 ∙ sym (placing_open (kid r b q) i.0 i.1 o)
 
     pub held : given 0 (take (length ps) rows) ≡ place_records (records_of r ps) 0 (records_of r ps)
     unfolding records_of

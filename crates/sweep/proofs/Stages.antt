@@ -8,7 +8,7 @@ use Rattle.std.proofs.lemmas.Bool.{cases_Bool, cond-true, cond-false}
 use Rattle.listing.specs.declared.Target.{Target}
 use Rattle.listing.specs.declared.Target.TheVariants.{Node}
 use Rattle.listing.specs.Members.{In}
-use Rattle.listing.specs.Listing.{Within}
+use Rattle.listing.specs.Listing.{Within, terminal}
 use Rattle.queue.specs.declared.Element.{Element}
 use Rattle.rows.specs.declared.row.Row.{Row}
 use Rattle.rows.specs.Marks as mark
@@ -18,7 +18,7 @@ use Rattle.pairs.specs.declared.keys.PairKey.{PairKey}
 use Rattle.pairs.specs.Keys.{key_of, rank_key}
 use Rattle.pairs.specs.Pairs.{Run, Sides, level, kid, start, opens, verdict, Open}
 use Rattle.pairs.specs.Rows.{Ascending, Rows, at_root, arc, queue_full, Comes, Refuses}
-use Rattle.pairs.specs.Records.{terminal, root_of, records_of, name, row, place, Means}
+use Rattle.pairs.specs.Records.{root_of, records_of, name, row, place, Means}
 use Rattle.pairs.proofs.PairOrder.{ahead_level}
 use Rattle.pairs.proofs.Pairs.{fine}
 use Rattle.pairs.proofs.Exist.{rows_are, shut_rows}
@@ -29,7 +29,8 @@ use Rattle.sweep.specs.declared.faults.Request.{Request}
 use Rattle.sweep.specs.declared.faults.RunFault.{RunFault}
 use Rattle.sweep.specs.declared.faults.RunFault.TheVariants as fault
 use Rattle.sweep.specs.declared.requests.Child.{Child}
-use Rattle.sweep.specs.Requests.{request, put_for, Kids, RefusedArc, draft, pointed, Pointed, NextPair}
+use Rattle.sweep.specs.declared.requests.Child.TheVariants as child
+use Rattle.sweep.specs.Requests.{child_of, put_for, Kids, RefusedArc, draft, pointed, Pointed, NextPair}
 use Rattle.sweep.specs.Running.{Hold, Done, opened_at, Ends}
 use Rattle.sweep.proofs.Arcs.{elements, Orders}
 use Rattle.sweep.proofs.Going.{Going, PutOn, Next, go_no_row, go_first, go_full, go_put, go_done, go_next, go_on}
@@ -70,25 +71,33 @@ drop_one : {X : Type 0} (k : ℕ) (xs ys : List X) → drop k xs ≡ drop k ys �
 drop_one k xs ys e = ap (λ n. drop n xs) (omega arith) ∙ sym (drop-drop 1 k xs) ∙ ap (drop 1) e ∙ drop-drop 1 k ys ∙ ap (λ n. drop n ys) (omega arith)
 
 -- what is put for an arc is the arc as it waits
-put_is : (r : Run) (k : ℕ) (p : Pair) (b : Bool) (c : Child) → c.pair ≡ kid r b p → c.«open» ≡ opens r.operator c.pair → put_for r.facts k b c ≡ elements (Keyed r) (arc r k p b)
+put_is : (r : Run) (k : ℕ) (p : Pair) (b : Bool) (c : Child) → c ≡ child_of r.operator (kid r b p) → put_for r.facts k b c ≡ elements (Keyed r) (arc r k p b)
 unfolding arc
-put_is r k p b c e o = ⊎_elim yes_open shut (cases_Bool (opens r.operator (kid r b p)))
+put_is r k p b c e = ⊎_elim yes_open shut (cases_Bool (opens r.operator (kid r b p)))
   where
-    flag : c.«open» ≡ opens r.operator (kid r b p)
-    flag = o ∙ ap (opens r.operator) e
-
     yes_open : opens r.operator (kid r b p) ≡ true → put_for r.facts k b c ≡ elements (Keyed r) (cond (opens r.operator (kid r b p)) (record { row = k; high = b; to = kid r b p } ∷ []) [])
     yes_open h =
-        cond-true c.«open» (request r.facts k b c.pair ∷ []) [] (flag ∙ h) ∙ ap (λ q. request r.facts k b q ∷ []) e ∙
+        ap (put_for r.facts k b) (e ∙ cond-true (opens r.operator (kid r b p)) _ _ h) ∙
         ap (elements (Keyed r)) (sym (cond-true (opens r.operator (kid r b p)) (record { row = k; high = b; to = kid r b p } ∷ []) [] h))
 
     shut : opens r.operator (kid r b p) ≡ false → put_for r.facts k b c ≡ elements (Keyed r) (cond (opens r.operator (kid r b p)) (record { row = k; high = b; to = kid r b p } ∷ []) [])
     shut h =
-        cond-false c.«open» (request r.facts k b c.pair ∷ []) [] (flag ∙ h) ∙
+        ap (put_for r.facts k b) (e ∙ cond-false (opens r.operator (kid r b p)) _ _ h) ∙
         ap (elements (Keyed r)) (sym (cond-false (opens r.operator (kid r b p)) (record { row = k; high = b; to = kid r b p } ∷ []) [] h))
 
-draft_shut : (r : Run) (p : Pair) (b : Bool) (c : Child) → c.pair ≡ kid r b p → c.«open» ≡ opens r.operator c.pair → opens r.operator (kid r b p) ≡ false → draft r.operator c ≡ terminal (verdict r.operator (kid r b p))
-draft_shut r p b c e o h = cond-false c.«open» _ _ (o ∙ ap (opens r.operator) e ∙ h) ∙ ap (λ q. terminal (verdict r.operator q)) e
+draft_shut : (r : Run) (p : Pair) (b : Bool) (c : Child) → c ≡ child_of r.operator (kid r b p) → opens r.operator (kid r b p) ≡ false → draft c ≡ terminal (verdict r.operator (kid r b p))
+draft_shut r p b c e h = ap draft (e ∙ cond-false (opens r.operator (kid r b p)) _ _ h)
+
+-- a child that is open is an open pair
+open_child : (o : ℕ) (p q : Pair) → child_of o p ≡ child.Open q → (opens o p ≡ true) × (q ≡ p)
+open_child o p q e =
+    ⊎_elim (λ h. (h, ap the_pair (sym e ∙ cond-true (opens o p) _ _ h)))
+    (λ h. let z : child.Closed (verdict o p) ≡ child.Open q = sym (cond-false (opens o p) _ _ h) ∙ e in cc)
+    (cases_Bool (opens o p))
+  where
+    the_pair : Child → Pair
+    the_pair (child.Open x) = x
+    the_pair (child.Closed v) = p
 
 -- the root of rows that there are is the first row's node
 root_open : (r : Run) → Sides r → (ps : List Pair) → Rows r ps → Open r (start r) → root_of r ps ≡ Node (level r (start r)) 0
@@ -146,19 +155,15 @@ module _ (r : Run) (ok : Sides r) (space room : ℕ) (before : List Row) (len : 
         (record { pairs = s.pairs; rows = s.are; comes = go_no_row r (Keyed r) s.pairs space room k s.front p ws s.going h }, omega (arith, s.bound), s.rest)
 
     module _ (l : k < space) (low high : Child) (kids : Kids r p low high) where
-      child_open : (b : Bool) → cond b high.«open» low.«open» ≡ true → Open r (kid r b p)
-      child_open true h = ap (opens r.operator) (sym kids.high_pair) ∙ sym kids.high_open ∙ h
-      child_open false h = ap (opens r.operator) (sym kids.low_pair) ∙ sym kids.low_open ∙ h
-
-      child_pair : (b : Bool) → cond b high.pair low.pair ≡ kid r b p
-      child_pair true = kids.high_pair
-      child_pair false = kids.low_pair
+      child_is : (b : Bool) → cond b high low ≡ child_of r.operator (kid r b p)
+      child_is true = kids.high_is
+      child_is false = kids.low_is
 
       low_put : put_for r.facts k false low ≡ elements (Keyed r) (arc r k p false)
-      low_put = put_is r k p false low kids.low_pair kids.low_open
+      low_put = put_is r k p false low kids.low_is
 
       high_put : put_for r.facts k true high ≡ elements (Keyed r) (arc r k p true)
-      high_put = put_is r k p true high kids.high_pair kids.high_open
+      high_put = put_is r k p true high kids.high_is
 
       -- an arc of it finds no room
       pub stage_full : (new : Row) (f : RunFault) → RefusedArc room r.facts k low high ws f → Ends r space room f × (opened_at f ≤ length before) × (drop (opened_at f) (set rows k new) ≡ drop (opened_at f) before)
@@ -168,23 +173,26 @@ module _ (r : Run) (ok : Sides r) (space room : ℕ) (before : List Row) (len : 
               out = record { pairs = s.pairs; rows = s.are; comes = g.0 };
               pair = p;
               refuses = g.1;
-              key = ap (key_of r.facts) (child_pair a.side);
+              key = ap (key_of r.facts) w.1;
             },
             omega arith,
             drop-set-lt (k + 1) rows k new (omega arith) ∙ drop_one k rows before s.rest,
           )
         where
+          w : (opens r.operator (kid r a.side p) ≡ true) × (a.pair ≡ kid r a.side p)
+          w = open_child r.operator (kid r a.side p) a.pair (sym (child_is a.side) ∙ a.wanted)
+
           g : Comes r s.pairs space room (queue_full k) × Refuses r s.pairs room k p a.side
           g =
-              go_full r (Keyed r) s.pairs space room ok s.are k s.front p ws s.going l a.side (child_open a.side a.wanted)
+              go_full r (Keyed r) s.pairs space room ok s.are k s.front p ws s.going l a.side w.0
               (a.full ∙ ap (λ x. length (cond a.side x [] ++ ws)) low_put)
 
-      new_arc : (new : Row) → new.low ≡ draft r.operator low → new.high ≡ draft r.operator high → (b : Bool) → opens r.operator (kid r b p) ≡ false → mark.arc b new ≡ terminal (verdict r.operator (kid r b p))
-      new_arc new e f true c = f ∙ draft_shut r p true high kids.high_pair kids.high_open c
-      new_arc new e f false c = e ∙ draft_shut r p false low kids.low_pair kids.low_open c
+      new_arc : (new : Row) → new.low ≡ draft low → new.high ≡ draft high → (b : Bool) → opens r.operator (kid r b p) ≡ false → mark.arc b new ≡ terminal (verdict r.operator (kid r b p))
+      new_arc new e f true c = f ∙ draft_shut r p true high kids.high_is c
+      new_arc new e f false c = e ∙ draft_shut r p false low kids.low_is c
 
       -- it is opened, and its arcs are put
-      pub stage_put : (new : Row) → new.level ≡ level r p → new.low ≡ draft r.operator low → new.high ≡ draft r.operator high → (vs : List (Element PairKey Request)) → length vs ≤ room →
+      pub stage_put : (new : Row) → new.level ≡ level r p → new.low ≡ draft low → new.high ≡ draft high → (vs : List (Element PairKey Request)) → length vs ≤ room →
           IsPermutation (put_for r.facts k true high ++ (put_for r.facts k false low ++ ws)) vs → Mid r space room before (k + 1) (level r p) (set rows k new) vs
       stage_put new e f h vs m sh =
           let on = go_put r (Keyed r) s.pairs space room ok s.are k s.front p ws s.going l vs m (subst (λ x. IsPermutation x vs) (ap₂ (λ x y. x ++ (y ++ ws)) high_put low_put) sh) in

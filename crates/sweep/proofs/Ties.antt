@@ -1,13 +1,14 @@
 -- Draining the ties of a least key.
-use Rattle.std.proofs.Common.{◌≡◌, true, false, List, [], ◌∷◌, ◌++◌, get_or, set, Ordering, Less, Equal, Greater, sym, refl, ap, ◌∙◌, ⊎_elim, arith}
+use Rattle.std.proofs.Common.{◌≡◌, true, false, not, List, [], ◌∷◌, ◌++◌, get_or, set, Ordering, Less, Equal, Greater, sym, refl, ap, ◌∙◌, ⊎_elim, arith}
 use mathlib.Core.Path.{subst⁻¹}
-use Rattle.std.specs.Ordering.{is_eq, is_gt, ordering_reverse}
+use Rattle.std.specs.Ordering.{is_eq, is_ne, is_gt, ordering_reverse}
 use Rattle.std.specs.List.Sorted.{IsPermutation}
 use Rattle.std.specs.List.{AllByRecursion}
 use Rattle.std.proofs.lemmas.Bool.{cases_Bool, true≢false, false≢true}
 use Rattle.std.proofs.ByRecursion.{All-weaker, all_shuffled}
 use Rattle.std.proofs.lemmas.List.Sorted.{IsPermutation-refl, IsPermutation-cons, IsPermutation-trans, IsPermutation-sym, IsPermutation-swap}
-use Rattle.queue.specs.Rank.{Lawful, UpTo}
+use Rattle.std.specs.Cmp.{IsTotalOrder}
+use Rattle.queue.specs.Rank.{UpTo}
 use Rattle.queue.specs.declared.Element.{Element}
 use Rattle.listing.specs.declared.Target.{Target}
 use Rattle.rows.specs.declared.row.Row.{Row}
@@ -19,6 +20,11 @@ is_equal : (o : Ordering) → is_eq o ≡ true → o ≡ Equal
 is_equal Less e = absurd (false≢true e)
 is_equal Equal e = refl
 is_equal Greater e = absurd (false≢true e)
+
+pub ne_is : (o : Ordering) → is_ne o ≡ not (is_eq o)
+ne_is Less = refl
+ne_is Equal = refl
+ne_is Greater = refl
 
 no_way : (o : Ordering) → is_gt o ≡ false → is_gt (ordering_reverse o) ≡ false → is_eq o ≡ false → ⊥
 no_way Less a b c = true≢false b
@@ -40,11 +46,11 @@ shuffled_middle (x ∷ xs) ys e =
     (IsPermutation-swap (e ∷ x ∷ (xs ++ ys)) (x ∷ e ∷ (xs ++ ys)) 0 1 (omega arith) (omega arith) refl)
     (IsPermutation-cons x _ _ (shuffled_middle xs ys e))
 
-tie_not : {K : Type 0} (rank : K → K → Ordering) → Lawful rank → (key e y : K) → UpTo rank e y → UpTo rank key e → is_eq (rank e key) ≡ false → is_eq (rank y key) ≡ false
-tie_not rank law key e y a b c = ⊎_elim (λ h. absurd (no_way (rank e key) (ap is_gt (sym (same h)) ∙ a) (ap is_gt (sym (law.flip key e)) ∙ b) c)) (λ h. h) (cases_Bool (is_eq (rank y key)))
+tie_not : {K : Type 0} (rank : K → K → Ordering) → IsTotalOrder rank → (key e y : K) → UpTo rank e y → UpTo rank key e → is_eq (rank e key) ≡ false → is_eq (rank y key) ≡ false
+tie_not rank law key e y a b c = ⊎_elim (λ h. absurd (no_way (rank e key) (ap is_gt (sym (same h)) ∙ a) (ap is_gt (sym (law.antisymm key e)) ∙ b) c)) (λ h. h) (cases_Bool (is_eq (rank y key)))
   where
     same : is_eq (rank y key) ≡ true → rank e y ≡ rank e key
-    same h = law.flip e y ∙ ap ordering_reverse (law.alike y key e (is_equal (rank y key) h)) ∙ sym (law.flip e key)
+    same h = law.antisymm e y ∙ ap ordering_reverse (law.congr y key e (is_equal (rank y key) h)) ∙ sym (law.antisymm e key)
 
 -- all that tie with the key are gone, and the others wait on
 pub record Drained {K V : Type 0} (rank : K → K → Ordering) (key : K) (xs ys : List (Element K V)) : Type 0 where
@@ -72,7 +78,7 @@ module _ {K V : Type 0} (rank : K → K → Ordering) (key : K) where
             (IsPermutation-trans (d.gone ++ ys) (d.gone ++ e ∷ zs) (e ∷ (d.gone ++ zs)) (shuffled_after d.gone ys (e ∷ zs) s) (IsPermutation-sym (e ∷ (d.gone ++ zs)) (d.gone ++ e ∷ zs) (shuffled_middle d.gone zs e)));
       }
 
-  pub on_end : Lawful rank → (xs ys : List (Element K V)) (e : Element K V) → AllByRecursion (λ y. UpTo rank key y.key) xs → GoingOn xs ys → AllByRecursion (λ y. UpTo rank e.key y.key) ys → UpTo rank key e.key → is_eq (rank e.key key) ≡ false → Drained rank key xs ys
+  pub on_end : IsTotalOrder rank → (xs ys : List (Element K V)) (e : Element K V) → AllByRecursion (λ y. UpTo rank key y.key) xs → GoingOn xs ys → AllByRecursion (λ y. UpTo rank e.key y.key) ys → UpTo rank key e.key → is_eq (rank e.key key) ≡ false → Drained rank key xs ys
   on_end law xs ys e low d h u c =
       record { gone = d.gone; ties = d.ties; rest = d.rest; apart = All-weaker (λ (y : Element K V). UpTo rank e.key y.key) (λ (y : Element K V). is_eq (rank y.key key) ≡ false) (λ y a. tie_not rank law key e.key y.key a u c) ys h }
 

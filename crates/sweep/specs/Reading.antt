@@ -7,7 +7,6 @@ use Rattle.listing.specs.declared.Record.{Record}
 use Rattle.pairs.specs.declared.Fixed.{Fixed}
 use Rattle.listing.specs.Listing.{Within, Listing}
 use Rattle.pairs.specs.Pairs.{Side}
-use Rattle.sweep.specs.declared.reading.Reader.{Reader}
 
 -- the records before place p have levels below l
 abbrev pub Passed : List Record → ℕ → ℕ → Type 0
@@ -33,18 +32,19 @@ StartsFor rs True p = Unit {0}
 abbrev pub side_of : Target → List Record → Option Fixed → Side
 side_of root rs f = record { records = rs; root = root; fixed = f }
 
--- a side can be read at a target on level l or behind it
-pub record Ready (n : ℕ) (root : Target) (rs : List Record) (reader : Reader) (l : ℕ) (t : Target) : Type 0 where
+-- a side's listing, and a target of it
+pub record Held (n : ℕ) (root : Target) (rs : List Record) (t : Target) : Type 0 where
   pub few : length rs < 2 ^ 64
   pub listing : Listing n root rs
   pub within : Within rs t
-  pub fixes : Fixes rs reader.fixed reader.fixed_start
-  pub starts : Starts rs l reader.start
 
--- a reader of a side with a fixed fact, which has passed the levels below l
-pub record Reads (rs : List Record) (fixed : Option Fixed) (l : ℕ) (reader : Reader) : Type 0 where
-  pub few : length rs < 2 ^ 64
-  pub fact : reader.fixed ≡ fixed
-  pub fixes : Fixes rs fixed reader.fixed_start
-  pub passed : Passed rs l reader.start
-  pub bound : reader.start ≤ length rs
+-- a side can be read at a target on level l or behind it, where that level starts at place p
+pub record Ready (n : ℕ) (root : Target) (rs : List Record) (fixed : Option Fixed) (fixed_start p l : ℕ) (t : Target) : Type 0 where
+  pub held : Held n root rs t
+  pub fixes : Fixes rs fixed fixed_start
+  pub starts : Starts rs l p
+
+-- the records before place p, which is one of them or behind the last, have levels below l
+pub record Reached (rs : List Record) (l p : ℕ) : Type 0 where
+  pub passed : Passed rs l p
+  pub bound : p ≤ length rs

@@ -12,48 +12,54 @@ use Rattle.pairs.specs.declared.Pair.{Pair}
 use Rattle.pairs.specs.declared.keys.PairKey.{PairKey}
 use Rattle.pairs.specs.Keys.{key_of, rank_key}
 use Rattle.pairs.specs.Pairs.{Run, kid, opens, verdict}
-use Rattle.pairs.specs.Records.{terminal}
+use Rattle.listing.specs.Listing.{terminal}
 use Rattle.rows.specs.declared.row.Row.{Row}
 use Rattle.rows.specs.Rows.{no_row}
 use Rattle.sweep.specs.declared.faults.Request.{Request}
 use Rattle.sweep.specs.declared.faults.RunFault.{RunFault}
 use Rattle.sweep.specs.declared.faults.RunFault.TheVariants.{Full}
 use Rattle.sweep.specs.declared.requests.Child.{Child}
+use Rattle.sweep.specs.declared.requests.Child.TheVariants as child
 
 -- the request of arc b of a row, which leads to the pair p
 abbrev pub request : ℕ → ℕ → Bool → Pair → Element PairKey Request
 request n row b p = record { key = key_of n p; carried = record { row = row; high = b } }
 
--- the two children of a pair, each with whether it is open
+-- what a pair is as a child: open, or closed with its answer
+abbrev pub child_of : ℕ → Pair → Child
+child_of o p = cond (opens o p) (child.Open p) (child.Closed (verdict o p))
+
+-- the two children of a pair
 pub record Kids (r : Run) (p : Pair) (low high : Child) : Type 0 where
-  pub low_pair : low.pair ≡ kid r false p
-  pub low_open : low.«open» ≡ opens r.operator low.pair
-  pub high_pair : high.pair ≡ kid r true p
-  pub high_open : high.«open» ≡ opens r.operator high.pair
+  pub low_is : low ≡ child_of r.operator (kid r false p)
+  pub high_is : high ≡ child_of r.operator (kid r true p)
 
 -- what is put for arc b of a row: its request, if the child is open
 abbrev pub put_for : ℕ → ℕ → Bool → Child → List (Element PairKey Request)
-put_for n row b c = cond c.«open» (request n row b c.pair ∷ []) []
+put_for n row b (child.Open p) = request n row b p ∷ []
+put_for n row b (child.Closed v) = []
 
 -- an arc is put, where it has to be, or there is no room for it
 abbrev pub PutArc : ℕ → ℕ → ℕ → Bool → Child → List (Element PairKey Request) → List (Element PairKey Request) → Result (Unit {0}) RunFault → Type 0
 PutArc room n row b c xs ys (Ok u) = (length ys ≤ room) × IsPermutation (put_for n row b c ++ xs) ys
-PutArc room n row b c xs ys (Err f) = (c.«open» ≡ true) × (room ≡ length xs) × (f ≡ Full (record { element = request n row b c.pair }))
+PutArc room n row b c xs ys (Err f) = (p : Pair) × (c ≡ child.Open p) × (room ≡ length xs) × (f ≡ Full (record { element = request n row b p }))
 
 -- both arcs of a row are put, low first, or one of them finds no room
 pub record RefusedArc (room n row : ℕ) (low high : Child) (xs : List (Element PairKey Request)) (f : RunFault) : Type 0 where
   pub side : Bool
-  pub wanted : cond side high.«open» low.«open» ≡ true
+  pub pair : Pair
+  pub wanted : cond side high low ≡ child.Open pair
   pub full : room ≡ length (cond side (put_for n row false low) [] ++ xs)
-  pub is : f ≡ Full (record { element = request n row side (cond side high.pair low.pair) })
+  pub is : f ≡ Full (record { element = request n row side pair })
 
 abbrev pub PutArcs : ℕ → ℕ → ℕ → Child → Child → List (Element PairKey Request) → List (Element PairKey Request) → Result (Unit {0}) RunFault → Type 0
 PutArcs room n row low high xs ys (Ok u) = (length ys ≤ room) × IsPermutation (put_for n row true high ++ (put_for n row false low ++ xs)) ys
 PutArcs room n row low high xs ys (Err f) = RefusedArc room n row low high xs f
 
 -- what an arc is until it is pointed at a row: a closed child's terminal, else False
-abbrev pub draft : ℕ → Child → Target
-draft o c = cond c.«open» False (terminal (verdict o c.pair))
+abbrev pub draft : Child → Target
+draft (child.Open p) = False
+draft (child.Closed v) = terminal v
 
 -- a row with one arc set
 abbrev pub point : Target → Bool → Row → Row

@@ -17,7 +17,7 @@ use Rattle.sweep.specs.declared.faults.Request.{Request}
 use Rattle.sweep.specs.declared.faults.RunFault.{RunFault}
 use Rattle.sweep.specs.declared.faults.RunFault.TheVariants as fault
 use Rattle.sweep.specs.declared.running.Task.{Task}
-use Rattle.sweep.specs.declared.running.Ran.{Ran}
+use Rattle.listing.specs.declared.Stored.{Stored}
 use Rattle.sweep.specs.Reading.{side_of}
 
 -- the run of two listings over n facts, each by its root and records
@@ -41,7 +41,7 @@ pub record ComesOut (r : Run) (space room : ℕ) (o : Outcome) : Type 0 where
 
 -- A run that is done: the rows, read as records, are a listing by the rules whose value at every setting is the run's; the
 -- rows beyond are as they were.
-pub record Done (r : Run) (space room : ℕ) (before after : List Row) (d : Ran) : Type 0 where
+pub record Done (r : Run) (space room : ℕ) (before after : List Row) (d : Stored) : Type 0 where
   pub out : ComesOut r space room done
   pub count : d.count ≡ length out.pairs
   pub root : d.root ≡ root_of r out.pairs
@@ -67,11 +67,11 @@ Ends r space room (fault.Row k) = ComesOut r space room (no_row k)
 Ends r space room (fault.Full f) = Overfull r space room f
 
 -- What a run answers, and what it leaves of the rows: after a fault, zeros in the rows opened, and the others as they were.
-abbrev pub Runs : Run → ℕ → ℕ → List Row → List Row → Result Ran RunFault → Type 0
+abbrev pub Runs : Run → ℕ → ℕ → List Row → List Row → Result Stored RunFault → Type 0
 Runs r space room before after (Ok d) = Done r space room before after d
 Runs r space room before after (Err f) = Ends r space room f × (opened_at f ≤ length before) × (after ≡ zeroed (opened_at f) before)
 
 -- the same before the rows are cleared
-abbrev pub Swept : Run → ℕ → ℕ → List Row → List Row → Result Ran RunFault → Type 0
+abbrev pub Swept : Run → ℕ → ℕ → List Row → List Row → Result Stored RunFault → Type 0
 Swept r space room before after (Ok d) = Done r space room before after d
 Swept r space room before after (Err f) = Ends r space room f × (opened_at f ≤ length before) × (drop (opened_at f) after ≡ drop (opened_at f) before)

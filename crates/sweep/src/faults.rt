@@ -32,12 +32,12 @@ impl From<Refused<PairKey, Request>> for RunFault {
     }
 }
 
-impl RunFault {
+impl From<RunFault> for Report {
+    ghost from_gives = { λ fault report. report ≡ told fault };
+
     /// The fault's number, place and detail: 13 with the row's number, 14 with the row whose arc was refused.
-    pub fn report(self) -> Report
-        ensures { result ≡ told self }
-    {
-        match self {
+    fn from(fault: RunFault) -> Report {
+        match fault {
             RunFault::Row { number } => Report {
                 number: 13,
                 place: number,

@@ -4,6 +4,7 @@
 #![tactic(auto)]
 
 pub mod faults;
+mod operands;
 mod reading;
 mod requests;
 pub mod running;

@@ -1,25 +1,27 @@
-// Reading the operands of a run. The pairs of a run come in order, so their levels only rise: each side keeps the
+// Reading one operand of a run. The pairs of a run come in order, so their levels only rise: each side keeps the
 // place where the records of the pair's level start, and a node's record stands as many places behind as its number says.
 
-ghost use Rattle.std.specs.Prelude.{◌≡◌, ℕ, ◌^◌, ◌<◌, ◌≤◌, length};
-ghost use Rattle.listing.specs.Listing.{Within, Numbered, Listing};
+ghost use Rattle.std.specs.Prelude.{◌≡◌, ◌^◌, ◌<◌, ◌≤◌, length};
+ghost use Rattle.listing.specs.Listing.{Numbered};
 ghost use Rattle.pairs.specs.Pairs.{on, leads, fixing, move};
-ghost use Rattle.sweep.specs.Reading.{Passed, Starts, Fixes, StartsFor, side_of, Reads};
+ghost use Rattle.sweep.specs.Reading.{Passed, Starts, Fixes, StartsFor, side_of, Held, Ready};
 
 use listing::Target;
 use pairs::Fixed;
 use source::Source;
+use source::walking::records_from;
 
-/// How far a side is read: its fixed fact, where the records of that level start, and where those of the pair's level do.
-#[derive(Clone, Copy)]
-pub struct Reader {
+/// One operand of a run: its source, perhaps a fixed fact, and where the records of that level start.
+#[derive(Drop)]
+pub struct Operand<'a, S> {
+    pub source: &'a S,
     pub fixed: Option<Fixed>,
+    // Beside the fact, and not in one Option with it: each clause would have to part the two again.
     pub fixed_start: usize,
-    pub start: usize,
 }
 
-// Where the records of a level start, looking from a place on that lies behind no such record.
-fn level_start<S: Source>(source: &S, from: usize, level: u16) -> usize
+/// Where the records of a level start, looking from a place on that lies behind no such record.
+pub fn level_start<S: Source>(source: &S, from: usize, level: u16) -> usize
     requires numbered { Numbered (S.listed source.now) }
     requires passed { Passed (S.listed source.now) level from }
     requires within { from ≤ length (S.listed source.now) }
@@ -27,114 +29,73 @@ fn level_start<S: Source>(source: &S, from: usize, level: u16) -> usize
     ensures within { result ≤ length (S.listed source.now) }
     ensures few { length (S.listed source.now) < 2 ^ 64 }
 {
-    let count = source.count();
-    for place in from..count {
-        let Some(r) = source.record(place) else {
-            return place;
-        };
-        if r.level >= level {
-            return place;
-        }
+    match records_from(source, from).position(|r| r.level >= level) {
+        Some(steps) => from + steps,
+        None => source.count(),
     }
-    count
 }
 
-// Where a node leads at a bit; its level's records start at `start`.
-fn lead<S: Source>(source: &S, start: usize, high: bool, target: Target) -> Target
-    requires few { length (S.listed source.now) < 2 ^ 64 }
-    requires listing { Listing (S.facts source.now) (S.top source.now) (S.listed source.now) }
-    requires within { Within (S.listed source.now) target }
-    requires starts { StartsFor (S.listed source.now) target start }
-    ensures { result ≡ leads (S.listed source.now) high target }
+/// Where the records of a fixed fact's level start.
+pub fn fixed_start<S: Source>(source: &S, fixed: Option<Fixed>) -> usize
+    requires { Numbered (S.listed source.now) }
+    ensures fixes { Fixes (S.listed source.now) fixed result }
+    ensures few { length (S.listed source.now) < 2 ^ 64 }
 {
-    match target {
-        Target::Node { number, .. } => match source.record(start + number as usize) {
-            Some(r) => r.child(high),
-            None => target,
-        },
-        Target::False => target,
-        Target::True => target,
-    }
+    let level = match fixed {
+        Some(fact) => fact.level,
+        None => 0,
+    };
+    level_start(source, 0, level)
 }
 
 // Whether a target is a node on a level.
 fn is_on(at: u16, target: Target) -> bool
     ensures { result ≡ on at target }
 {
-    match target {
-        Target::Node { level, .. } => level == at,
-        Target::False => false,
-        Target::True => false,
-    }
+    matches!(target, Target::Node { level, .. } if level == at)
 }
 
-// A node on the fixed level is replaced by its fixed child.
-pub fn settled<S: Source>(source: &S, reader: Reader, target: Target) -> Target
-    requires few { length (S.listed source.now) < 2 ^ 64 }
-    requires listing { Listing (S.facts source.now) (S.top source.now) (S.listed source.now) }
-    requires within { Within (S.listed source.now) target }
-    requires fixes { Fixes (S.listed source.now) reader.fixed reader.fixed_start }
-    ensures { result ≡ fixing (S.listed source.now) reader.fixed target }
-{
-    match reader.fixed {
-        Some(fact) => {
-            if is_on(fact.level, target) {
-                lead(source, reader.fixed_start, fact.bit, target)
-            } else {
-                target
-            }
+impl<'a, S: Source> Operand<'a, S> {
+    // Where a node leads at a bit; its level's records start at `start`.
+    fn lead(&self, start: usize, high: bool, target: Target) -> Target
+        requires held { Held (S.facts self.now.source.now) (S.top self.now.source.now) (S.listed self.now.source.now) target }
+        requires starts { StartsFor (S.listed self.now.source.now) target start }
+        ensures { result ≡ leads (S.listed self.now.source.now) high target }
+    {
+        match target {
+            Target::Node { number, .. } => match self.source.record(start + number as usize) {
+                Some(r) => r.child(high),
+                None => target,
+            },
+            Target::False => target,
+            Target::True => target,
         }
-        None => target,
     }
-}
 
-// A side that is on a level moves to its child at a bit, the fixed fact heeded; any other side stays.
-pub fn moved<S: Source>(
-    source: &S,
-    reader: Reader,
-    level: u16,
-    high: bool,
-    target: Target,
-) -> Target
-    requires few { length (S.listed source.now) < 2 ^ 64 }
-    requires listing { Listing (S.facts source.now) (S.top source.now) (S.listed source.now) }
-    requires within { Within (S.listed source.now) target }
-    requires fixes { Fixes (S.listed source.now) reader.fixed reader.fixed_start }
-    requires starts { Starts (S.listed source.now) level reader.start }
-    ensures { result ≡ move (side_of (S.top source.now) (S.listed source.now) reader.fixed) level high target }
-{
-    if is_on(level, target) {
-        settled(source, reader, lead(source, reader.start, high, target))
-    } else {
-        target
+    /// A node on the fixed level is replaced by its fixed child.
+    pub fn settled(&self, target: Target) -> Target
+        requires held { Held (S.facts self.now.source.now) (S.top self.now.source.now) (S.listed self.now.source.now) target }
+        requires fixes { Fixes (S.listed self.now.source.now) self.now.fixed self.now.fixed_start }
+        ensures { result ≡ fixing (S.listed self.now.source.now) self.now.fixed target }
+    {
+        match self.fixed {
+            Some(fact) if is_on(fact.level, target) => {
+                self.lead(self.fixed_start, fact.bit, target)
+            }
+            _ => target,
+        }
     }
-}
 
-/// A reader at a side's first record.
-pub fn reader_of<S: Source>(source: &S, fixed: Option<Fixed>) -> Reader
-    requires { Numbered (S.listed source.now) }
-    ensures { (l : ℕ) → Reads (S.listed source.now) fixed l result }
-{
-    let level = match fixed {
-        Some(fact) => fact.level,
-        None => 0,
-    };
-    Reader {
-        fixed,
-        fixed_start: level_start(source, 0, level),
-        start: 0,
-    }
-}
-
-/// The reader, moved on to a level.
-pub fn moved_on<S: Source>(source: &S, reader: Reader, level: u16) -> Reader
-    requires numbered { Numbered (S.listed source.now) }
-    requires reads { Reads (S.listed source.now) reader.fixed level reader }
-    ensures reads { Reads (S.listed source.now) reader.fixed level result }
-    ensures starts { Starts (S.listed source.now) level result.start }
-{
-    Reader {
-        start: level_start(source, reader.start, level),
-        ..reader
+    /// A side that is on a level, whose records start at `start`, moves to its child at a bit, the fixed fact heeded; any
+    /// other side stays.
+    pub fn moved(&self, start: usize, level: u16, high: bool, target: Target) -> Target
+        requires { Ready (S.facts self.now.source.now) (S.top self.now.source.now) (S.listed self.now.source.now) self.now.fixed self.now.fixed_start start level target }
+        ensures { result ≡ move (side_of (S.top self.now.source.now) (S.listed self.now.source.now) self.now.fixed) level high target }
+    {
+        if is_on(level, target) {
+            self.settled(self.lead(start, high, target))
+        } else {
+            target
+        }
     }
 }

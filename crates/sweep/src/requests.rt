@@ -2,25 +2,51 @@
 
 ghost use Rattle.std.specs.Prelude.{◌≡◌, ◌<◌, length};
 ghost use Rattle.std.specs.List.{AllByRecursion};
-ghost use Rattle.listing.specs.declared.Target.TheVariants.{Node};
 ghost use Rattle.queue.specs.Rank.{UpTo};
-ghost use Rattle.pairs.specs.Pairs.{opens};
-ghost use Rattle.pairs.specs.Records.{terminal};
-ghost use Rattle.sweep.specs.Requests.{PutArc, PutArcs, draft, point, Pointed, NextPair};
+ghost use Rattle.sweep.specs.Requests.{PutArc, PutArcs, child_of, draft, point, Pointed, NextPair};
 
 use crate::faults::{Request, RunFault};
 use listing::Target;
 use pairs::Pair;
 use pairs::keys::PairKey;
-use pairs::opening::{is_open, key_of, verdict_of};
-use queue::{Key, Queue};
+use queue::Queue;
 use rows::row::{Row, ZERO};
 
-/// A row's child, and whether it is open.
+/// A row's child: an open pair, or a closed pair's answer.
 #[derive(Clone, Copy)]
-pub struct Child {
-    pub pair: Pair,
-    pub open: bool,
+pub enum Child {
+    Open(Pair),
+    Closed(bool),
+}
+
+/// A row's two children.
+#[derive(Clone, Copy)]
+pub struct Children {
+    pub low: Child,
+    pub high: Child,
+}
+
+impl Child {
+    /// What a pair is as a child under an operator.
+    pub fn of(operator: u8, pair: Pair) -> Child
+        ensures { result ≡ child_of operator pair }
+    {
+        if pair.is_open(operator) {
+            Child::Open(pair)
+        } else {
+            Child::Closed(pair.verdict(operator))
+        }
+    }
+
+    // What an arc is until it is pointed at a row: a closed child's terminal, else False.
+    fn draft(self) -> Target
+        ensures { result ≡ draft self }
+    {
+        match self {
+            Child::Open(_) => Target::False,
+            Child::Closed(bit) => Target::from(bit),
+        }
+    }
 }
 
 // Puts the request of a row's arc, if the child is open.
@@ -31,13 +57,11 @@ fn put_arc<Q: Queue<PairKey, Request>>(
     high: bool,
     child: Child,
 ) -> Result<(), RunFault>
-    requires { Q.Queue.kept queue.old }
-    ensures kept { Q.Queue.kept queue.new }
     ensures room { Q.Queue.room queue.new ≡ Q.Queue.room queue.old }
     ensures put { PutArc (Q.Queue.room queue.old) n row high child (Q.Queue.waiting queue.old) (Q.Queue.waiting queue.new) result }
 {
-    if child.open {
-        queue.put(key_of(n, child.pair), Request { row, high })?;
+    if let Child::Open(pair) = child {
+        queue.put(pair.key(n), Request { row, high })?;
     }
     Ok(())
 }
@@ -47,58 +71,26 @@ pub fn put_arcs<Q: Queue<PairKey, Request>>(
     queue: &mut Q,
     n: u16,
     row: u32,
-    low: Child,
-    high: Child,
+    children: Children,
 ) -> Result<(), RunFault>
-    requires { Q.Queue.kept queue.old }
-    ensures kept { Q.Queue.kept queue.new }
     ensures room { Q.Queue.room queue.new ≡ Q.Queue.room queue.old }
-    ensures put { PutArcs (Q.Queue.room queue.old) n row low high (Q.Queue.waiting queue.old) (Q.Queue.waiting queue.new) result }
+    ensures put { PutArcs (Q.Queue.room queue.old) n row children.low children.high (Q.Queue.waiting queue.old) (Q.Queue.waiting queue.new) result }
 {
-    put_arc(queue, n, row, false, low)?;
-    put_arc(queue, n, row, true, high)
-}
-
-/// The terminal of a bit.
-pub fn terminal_of(bit: bool) -> Target
-    ensures { result ≡ terminal bit }
-{
-    if bit { Target::True } else { Target::False }
-}
-
-// What an arc is until it is pointed at a row: a closed child's terminal.
-fn draft_of(operator: u8, child: Child) -> Target
-    ensures { result ≡ draft operator child }
-{
-    if child.open {
-        Target::False
-    } else {
-        terminal_of(verdict_of(operator, child.pair))
-    }
+    put_arc(queue, n, row, false, children.low)?;
+    put_arc(queue, n, row, true, children.high)
 }
 
 /// A row as it is opened: its level, and its arcs until they are pointed at rows.
-pub fn drafted(operator: u8, level: u16, low: Child, high: Child) -> Row
+pub fn drafted(level: u16, children: Children) -> Row
     ensures level { result.level ≡ level }
-    ensures low { result.low ≡ draft operator low }
-    ensures high { result.high ≡ draft operator high }
+    ensures low { result.low ≡ draft children.low }
+    ensures high { result.high ≡ draft children.high }
 {
     Row {
-        low: draft_of(operator, low),
-        high: draft_of(operator, high),
+        low: children.low.draft(),
+        high: children.high.draft(),
         level,
         ..ZERO
-    }
-}
-
-/// A pair as a child, with whether it is open.
-pub fn judged(operator: u8, pair: Pair) -> Child
-    ensures pair { result.pair ≡ pair }
-    ensures open { result.«open» ≡ opens operator pair }
-{
-    Child {
-        pair,
-        open: is_open(operator, pair),
     }
 }
 
@@ -117,26 +109,24 @@ fn pointing(old: Row, high: bool, target: Target) -> Row
 }
 
 // Takes all that wait for the key, which none waits before, and sets their arcs to the target.
-fn point_all<K: Key, Q: Queue<K, Request>>(queue: &mut Q, key: K, rows: &mut [Row], target: Target)
-    requires kept { Q.Queue.kept queue.old }
-    requires least { AllByRecursion (λ y. UpTo K.Key.rank key y.key) (Q.Queue.waiting queue.old) }
+fn point_all<K: Ord + Copy, Q: Queue<K, Request>>(
+    queue: &mut Q,
+    key: K,
+    rows: &mut [Row],
+    target: Target,
+)
+    requires least { AllByRecursion (λ y. UpTo K.cmp key y.key) (Q.Queue.waiting queue.old) }
     requires within { AllByRecursion (λ y. y.carried.row < length rows.old) (Q.Queue.waiting queue.old) }
-    ensures kept { Q.Queue.kept queue.new }
     ensures room { Q.Queue.room queue.new ≡ Q.Queue.room queue.old }
-    ensures pointed { Pointed K.Key.rank key target (Q.Queue.waiting queue.old) (Q.Queue.waiting queue.new) rows.old rows.new }
+    ensures pointed { Pointed K.cmp key target (Q.Queue.waiting queue.old) (Q.Queue.waiting queue.new) rows.old rows.new }
 {
-    loop {
-        match queue.look() {
-            None => return,
-            Some(e) => {
-                if !e.key.cmp(&key).is_eq() {
-                    return;
-                }
-                let _ = queue.take();
-                let at = e.carried.row as usize;
-                rows[at] = pointing(rows[at], e.carried.high, target);
-            }
+    while let Some(e) = queue.look() {
+        if e.key.cmp(&key).is_ne() {
+            break;
         }
+        let _ = queue.take();
+        let at = e.carried.row as usize;
+        rows[at] = pointing(rows[at], e.carried.high, target);
     }
 }
 
@@ -146,21 +136,15 @@ pub fn next_pair<Q: Queue<PairKey, Request>>(
     rows: &mut [Row],
     row: u32,
 ) -> Option<Pair>
-    requires kept { Q.Queue.kept queue.old }
     requires within { AllByRecursion (λ y. y.carried.row < length rows.old) (Q.Queue.waiting queue.old) }
-    ensures kept { Q.Queue.kept queue.new }
     ensures room { Q.Queue.room queue.new ≡ Q.Queue.room queue.old }
     ensures next { NextPair row (Q.Queue.waiting queue.old) (Q.Queue.waiting queue.new) rows.old rows.new result }
 {
-    match queue.look() {
-        None => None,
-        Some(e) => {
-            let target = Target::Node {
-                level: e.key.level,
-                number: row,
-            };
-            point_all(queue, e.key, rows, target);
-            Some(e.key.pair)
-        }
-    }
+    let e = queue.look()?;
+    let target = Target::Node {
+        level: e.key.level,
+        number: row,
+    };
+    point_all(queue, e.key, rows, target);
+    Some(e.key.pair)
 }

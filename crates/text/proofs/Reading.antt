@@ -2,29 +2,27 @@
 use Rattle.std.proofs.Common.{◌≡◌, ℕ, zero, suc, ◌+◌, ◌-◌, ◌*◌, ◌/◌, ◌<◌, Bool, true, false, cond, eqb, ltb, List, length, get_or, drop, is_some, Some, None, Option, sym, refl, ap, ◌∙◌, arith}
 use Rattle.std.proofs.lemmas.List.{drop-drop, get_or-drop}
 use Rattle.std.proofs.lemmas.Bool.{eqb-true}
+use Rattle.std.proofs.lemmas.Option.{none-some}
 use Rattle.text.specs.declared.faults.TextFault.{TextFault}
 use Rattle.text.specs.declared.faults.TextFault.TheVariants.{Length, Column}
 use Rattle.text.specs.Columns.{column_of}
 use Rattle.text.specs.Layout.{width, if_read, line_fault, at_line, lines_of, lines_fault, facts_of, count_of, records_of, body_fault, text_fault}
 use Rattle.text.specs.Opened.{Header, Line, WellFormed}
 
-some_not_none : {X : Type 0} {P : Type 0} (x : X) → Some x ≡ None → P
-some_not_none x e = let z : ◌≡◌ {A = ℕ} 0 1 = cc in absurd (omega arith)
-
 read_both : (o x : Option ℕ) (c : ℕ) → if_read o x (Some c) ≡ None → (is_some o ≡ true) × (x ≡ None)
 read_both (Some v) x c e = (refl, e)
-read_both None x c e = some_not_none c e
+read_both None x c e = absurd (none-some c (sym e))
 
 at_both : (o : Option ℕ) (k : ℕ) (rest : Option TextFault) → at_line o k rest ≡ None → (o ≡ None) × (rest ≡ None)
-at_both (Some c) k rest e = some_not_none (Column k c) e
+at_both (Some c) k rest e = absurd (none-some (Column k c) (sym e))
 at_both None k rest e = (refl, e)
 
 then_none : {X : Type 0} (b : Bool) (x : Option X) (y : X) → cond b x (Some y) ≡ None → (b ≡ true) × (x ≡ None)
 then_none true x y e = (refl, e)
-then_none false x y e = some_not_none y e
+then_none false x y e = absurd (none-some y (sym e))
 
 else_none : {X : Type 0} (b : Bool) (x : Option X) (y : X) → cond b (Some y) x ≡ None → x ≡ None
-else_none true x y e = some_not_none y e
+else_none true x y e = absurd (none-some y (sym e))
 else_none false x y e = e
 
 -- one column of a line without a fault, `at` bytes from the line's start; the rest of the line has no fault either

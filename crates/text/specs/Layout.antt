@@ -1,6 +1,6 @@
 -- The layout of a text. The header's columns are n, N and the root's level and number; a record's line has its own
 -- level and number, low's and high's. Columns are 4 and 6 bytes wide in turn, and a line feed ends each line.
-use Rattle.std.specs.Prelude.{ℕ, zero, suc, ◌+◌, ◌*◌, ◌%◌, cond, List, [], ◌∷◌, length, drop, Some, None, Option, ◌==◌, nat_lt, slice_index}
+use Rattle.std.specs.Prelude.{ℕ, zero, suc, ◌+◌, ◌*◌, ◌%◌, cond, List, [], ◌∷◌, length, drop, Some, None, Option, Result, MatchResult, ◌≡◌, ◌==◌, nat_lt, slice_index}
 use Rattle.listing.specs.declared.Target.{Target}
 use Rattle.listing.specs.declared.Target.TheVariants.{Node, False, True}
 use Rattle.listing.specs.declared.Record.{Record}
@@ -70,3 +70,7 @@ body_fault bs = cond (length bs == 21 + 31 * count_of bs) (lines_fault (count_of
 -- the first fault of a text: too short for a header, then the header's columns, then the length, then the lines
 abbrev pub text_fault : List ℕ → Option TextFault
 text_fault bs = cond (nat_lt (length bs) 21) (Some Length) (at_line (line_fault 4 0 bs) 0 (body_fault bs))
+
+-- a test finds the fault, if there is one, and tells it
+abbrev pub Finds : {X : Type 0} → Option TextFault → Result X TextFault → Type 0
+Finds o r = MatchResult r (λ _. o ≡ None) (λ f. o ≡ Some f)

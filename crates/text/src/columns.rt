@@ -1,8 +1,8 @@
-// The column reader: takes columns, each a decimal number at its right end after blanks, from the bytes that it is
-// handed. It is for the text above, which proves that the columns lie within the bytes.
+// The column reader: a column is the bytes of one number, which stands at their right end after blanks.
 
-ghost use Rattle.std.specs.Prelude.{◌≡◌, ◌+◌, ◌^◌, ◌<◌, ◌≤◌, length, drop, MatchOption};
-ghost use Rattle.text.specs.Columns.{digits, column_of, value_at};
+ghost use Rattle.std.specs.Prelude.{◌≡◌, ◌^◌, ◌<◌, ◌≤◌, ◌==◌, not, length, position, MatchOption};
+ghost use Rattle.std.specs.Option.{unwrap_or};
+ghost use Rattle.text.specs.Columns.{digits, numeral};
 
 // The number that the digits of `text` make.
 fn digits_of(text: &[u8]) -> Option<u32>
@@ -12,53 +12,51 @@ fn digits_of(text: &[u8]) -> Option<u32>
 {
     let mut value: u32 = 0;
     for b in text {
-        let d = *b;
-        if d < b'0' || d > b'9' {
+        if !b.is_ascii_digit() {
             return None;
         }
-        value = value * 10 + (d - b'0') as u32;
+        value = value * 10 + (*b - b'0') as u32;
     }
     Some(value)
 }
 
-// The number in the first `width` bytes, absent where they are not a column: blanks, then a decimal number
-// without needless zeros.
-fn column(bytes: &[u8], width: usize) -> Option<u32>
-    requires within { width ≤ length bytes.now }
-    requires narrow { width ≤ 9 }
-    ensures value { result ≡ column_of bytes.now width }
-    ensures below { MatchOption result (0 < 10 ^ width) (λ v. v < 10 ^ width) }
+// Where the blanks of a column end.
+fn behind_blanks(column: &[u8]) -> Option<usize>
+    ensures { result ≡ position (λ b. not (b == 32)) column.now }
 {
-    for i in 0..width {
-        if bytes[i] == b'0' {
-            return if i + 1 == width { Some(0) } else { None };
-        }
-        if bytes[i] != b' ' {
-            return digits_of(&bytes[i..width]);
-        }
-    }
-    None
+    column.iter().position(|b| *b != b' ')
 }
 
-// The number in the column of `width` bytes from `at` on.
-pub fn column_at(bytes: &[u8], at: usize, width: usize) -> Option<u32>
-    requires within { at + width ≤ length bytes.now }
-    requires narrow { width ≤ 9 }
-    ensures value { result ≡ column_of (drop at bytes.now) width }
-    ensures below { MatchOption result (0 < 10 ^ width) (λ v. v < 10 ^ width) }
+// The number in a column, absent where the bytes are not blanks and then a decimal number without needless zeros.
+pub fn number_in(column: &[u8]) -> Option<u32>
+    requires narrow { length column.now ≤ 9 }
+    ensures value { result ≡ numeral column.now }
+    ensures below { MatchOption result (0 < 10 ^ length column.now) (λ v. v < 10 ^ length column.now) }
 {
-    column(&bytes[at..], width)
+    let first = behind_blanks(column)?;
+    let text = &column[first..];
+    if text[0] != b'0' {
+        digits_of(text)
+    } else if text.len() == 1 {
+        Some(0)
+    } else {
+        None
+    }
 }
 
-// The number in the column of `width` bytes from `at` on, or 0 where it is malformed.
-pub fn value_at(bytes: &[u8], at: usize, width: usize) -> u32
-    requires within { at + width ≤ length bytes.now }
-    requires narrow { width ≤ 9 }
-    ensures value { result ≡ value_at bytes.now at width }
-    ensures below { result < 10 ^ width }
+// The number in a column, or 0 where it is malformed.
+pub fn value_in(column: &[u8]) -> u32
+    requires narrow { length column.now ≤ 9 }
+    ensures value { result ≡ unwrap_or (numeral column.now) 0 }
+    ensures below { result < 10 ^ length column.now }
 {
-    match column_at(bytes, at, width) {
-        Some(value) => value,
-        None => 0,
-    }
+    number_in(column).unwrap_or(0)
+}
+
+// The same in a column of a level.
+pub fn level_in(column: &[u8]) -> u16
+    requires narrow { length column.now ≤ 4 }
+    ensures { result ≡ unwrap_or (numeral column.now) 0 }
+{
+    value_in(column) as u16
 }

@@ -1,9 +1,10 @@
 // What is wrong with a text.
 
-ghost use Rattle.std.specs.Prelude.{◌≡◌};
-ghost use Rattle.text.specs.Faults.{told};
+ghost use Rattle.std.specs.Prelude.{◌≡◌, Some};
+ghost use Rattle.text.specs.Faults.{told, words};
 
 use listing::reports::Report;
+use std::fmt;
 
 /// Why a text is not opened.
 #[derive(Clone, Copy, PartialEq, Eq)]
@@ -15,12 +16,12 @@ pub enum TextFault {
     Column { line: u32, column: u32 },
 }
 
-impl TextFault {
+impl From<TextFault> for Report {
+    ghost from_gives = { λ fault report. report ≡ told fault };
+
     /// The fault's number, place and detail.
-    pub fn report(self) -> Report
-        ensures { result ≡ told self }
-    {
-        match self {
+    fn from(fault: TextFault) -> Report {
+        match fault {
             TextFault::Length => Report {
                 number: 3,
                 place: 0,
@@ -32,5 +33,16 @@ impl TextFault {
                 detail: column,
             },
         }
+    }
+}
+
+impl fmt::Display for TextFault {
+    ghost output = { λ fault. Some (words fault) };
+
+    fn fmt<W: fmt::Write>(&self, f: &mut fmt::Formatter<W>) -> fmt::Result {
+        f.write_str(match self {
+            TextFault::Length => "the text's length is wrong",
+            TextFault::Column { .. } => "a column is malformed",
+        })
     }
 }

@@ -8,13 +8,13 @@ use Rattle.listing.specs.declared.Target.{Target}
 use Rattle.listing.specs.declared.Target.TheVariants.{Node, False, True}
 use Rattle.listing.specs.declared.Record.{Record}
 use Rattle.listing.specs.Members.{In}
-use Rattle.listing.specs.Listing.{Within, Levelled, Follows, Next, Numbered}
+use Rattle.listing.specs.Listing.{depth, Within, Levelled, Follows, Next, Numbered}
 use Rattle.listing.proofs.Rules.{root_within}
 use Rattle.text.specs.Columns.{digits, numeral, column_of, value_at}
 use Rattle.text.specs.Layout.{width, target_of, record_of, lines_of, facts_of, count_of, root_of, records_of, line_fault, at_line, lines_fault, text_fault}
-use Rattle.text_writing.specs.Writing.{lead, leading, padded, pair, level_of, number_of, aim, header, columns, line, written, Tells, OpensAgain}
+use Rattle.text_writing.specs.Writing.{lead, leading, padded, pair, number_of, aim, header, columns, line, written, Tells, OpensAgain}
 use Rattle.text.proofs.Numbers.{yes_digit}
-use Rattle.text.proofs.Lines.{line_some, text_long, body_lines}
+use Rattle.text.proofs.Lines.{column_some, text_long, body_lines}
 use Rattle.text_writing.proofs.Written.{length_padded, length_pair, length_header, length_line, length_written}
 
 -- a number in its column: blanks are passed over, and each digit is read as it was written
@@ -92,15 +92,15 @@ module _ (a b : ℕ) (rest : List ℕ) where
   -- neither column is malformed
   pair_sound : (m k : ℕ) → 4 ≡ width k → 6 ≡ width (k + 1) → a < 10000 → b < 1000000 → line_fault (suc (suc m)) k (pair a b ++ rest) ≡ line_fault m (k + 1 + 1) rest
   pair_sound m k e f la lb =
-      sym (line_some (pair a b ++ rest) 0 k (suc m) (suc (suc m)) 4 refl e a (sym (first_column la))) ∙
-      sym (line_some (pair a b ++ rest) 4 (k + 1) m (suc m) 6 refl f b (sym (second_column lb))) ∙
-      ap (line_fault m (k + 1 + 1)) behind
+      sym (column_some (pair a b ++ rest) k (suc m) (suc (suc m)) 4 refl e a (sym (first_column la))) ∙
+      sym (column_some (drop 4 (pair a b ++ rest)) (k + 1) m (suc m) 6 refl f b (sym (second_column lb))) ∙
+      ap (line_fault m (k + 1 + 1)) (drop-drop 6 4 (pair a b ++ rest) ∙ behind)
 
 -- a target that fits its columns, and is not a node on level n
 record Fits (n : ℕ) (t : Target) : Type 0 where
-  level : level_of n t < 10000
+  level : depth n t < 10000
   number : number_of t < 1000000
-  same : target_of n (level_of n t) (number_of t) ≡ t
+  same : target_of n (depth n t) (number_of t) ≡ t
 
 -- a record that fits its line
 record FitsLine (n : ℕ) (r : Record) : Type 0 where
@@ -110,7 +110,7 @@ record FitsLine (n : ℕ) (r : Record) : Type 0 where
   high : Fits n r.high
 
 -- a target's two columns, as level and number
-target_read : (n : ℕ) (t : Target) → Fits n t → (k a b : ℕ) → k ≡ n → a ≡ level_of n t → b ≡ number_of t → target_of k a b ≡ t
+target_read : (n : ℕ) (t : Target) → Fits n t → (k a b : ℕ) → k ≡ n → a ≡ depth n t → b ≡ number_of t → target_of k a b ≡ t
 target_read n t fit k a b d e f = ap (λ j. target_of j a b) d ∙ ap₂ (λ x y. target_of n x y) e f ∙ fit.same
 
 -- one line, with what stands behind it
@@ -133,15 +133,15 @@ module _ (n : ℕ) (r : Record) (rest : List ℕ) where
   at_low at w = ap (λ bs. value_at bs (10 + at) w) line_then ∙ later_value r.level r.number from_low at w
 
   at_high : (at w : ℕ) → value_at (line n r ++ rest) (10 + (10 + at)) w ≡ value_at from_high at w
-  at_high at w = at_low (10 + at) w ∙ later_value (level_of n r.low) (number_of r.low) from_high at w
+  at_high at w = at_low (10 + at) w ∙ later_value (depth n r.low) (number_of r.low) from_high at w
 
 module _ (n : ℕ) (r : Record) (rest : List ℕ) (fit : FitsLine n r) where
   line_sound : line_fault 6 0 (line n r ++ rest) ≡ None
   line_sound =
       ap (line_fault 6 0) (line_then n r rest) ∙
       pair_sound r.level r.number (from_low n r rest) 4 0 refl refl fit.level fit.number ∙
-      pair_sound (level_of n r.low) (number_of r.low) (from_high n r rest) 2 2 refl refl fit.low.level fit.low.number ∙
-      pair_sound (level_of n r.high) (number_of r.high) (10 ∷ rest) 0 4 refl refl fit.high.level fit.high.number
+      pair_sound (depth n r.low) (number_of r.low) (from_high n r rest) 2 2 refl refl fit.low.level fit.low.number ∙
+      pair_sound (depth n r.high) (number_of r.high) (10 ∷ rest) 0 4 refl refl fit.high.level fit.high.number
 
   level_read : value_at (line n r ++ rest) 0 4 ≡ r.level
   level_read = ap (λ bs. value_at bs 0 4) (line_then n r rest) ∙ first_value r.level r.number (from_low n r rest) fit.level
@@ -152,14 +152,14 @@ module _ (n : ℕ) (r : Record) (rest : List ℕ) (fit : FitsLine n r) where
   low_read : target_of n (value_at (line n r ++ rest) 10 4) (value_at (line n r ++ rest) 14 6) ≡ r.low
   low_read =
       target_read n r.low fit.low n _ _ refl
-      (at_low n r rest 0 4 ∙ first_value (level_of n r.low) (number_of r.low) (from_high n r rest) fit.low.level)
-      (at_low n r rest 4 6 ∙ second_value (level_of n r.low) (number_of r.low) (from_high n r rest) fit.low.number)
+      (at_low n r rest 0 4 ∙ first_value (depth n r.low) (number_of r.low) (from_high n r rest) fit.low.level)
+      (at_low n r rest 4 6 ∙ second_value (depth n r.low) (number_of r.low) (from_high n r rest) fit.low.number)
 
   high_read : target_of n (value_at (line n r ++ rest) 20 4) (value_at (line n r ++ rest) 24 6) ≡ r.high
   high_read =
       target_read n r.high fit.high n _ _ refl
-      (at_high n r rest 0 4 ∙ first_value (level_of n r.high) (number_of r.high) (10 ∷ rest) fit.high.level)
-      (at_high n r rest 4 6 ∙ second_value (level_of n r.high) (number_of r.high) (10 ∷ rest) fit.high.number)
+      (at_high n r rest 0 4 ∙ first_value (depth n r.high) (number_of r.high) (10 ∷ rest) fit.high.level)
+      (at_high n r rest 4 6 ∙ second_value (depth n r.high) (number_of r.high) (10 ∷ rest) fit.high.number)
 
   line_read : record_of n (line n r ++ rest) ≡ r
   line_read = λ i. record { level = level_read i; number = number_read i; low = low_read i; high = high_read i }
@@ -194,7 +194,7 @@ module _ (n : ℕ) (root : Target) (rs : List Record) (few : n < 10000) (short :
   head_sound =
       ap (line_fault 4 0) text_then ∙
       pair_sound n (length rs) from_root 2 0 refl refl few short ∙
-      pair_sound (level_of n root) (number_of root) (10 ∷ flat_map (line n) rs) 0 2 refl refl top.level top.number
+      pair_sound (depth n root) (number_of root) (10 ∷ flat_map (line n) rs) 0 2 refl refl top.level top.number
 
   facts_read : facts_of (written n root rs) ≡ n
   facts_read = ap facts_of text_then ∙ first_value n (length rs) from_root few
@@ -208,8 +208,8 @@ module _ (n : ℕ) (root : Target) (rs : List Record) (few : n < 10000) (short :
   root_read : root_of (written n root rs) ≡ root
   root_read =
       target_read n root top (facts_of (written n root rs)) _ _ facts_read
-      (root_value 0 4 ∙ first_value (level_of n root) (number_of root) (10 ∷ flat_map (line n) rs) top.level)
-      (root_value 4 6 ∙ second_value (level_of n root) (number_of root) (10 ∷ flat_map (line n) rs) top.number)
+      (root_value 0 4 ∙ first_value (depth n root) (number_of root) (10 ∷ flat_map (line n) rs) top.level)
+      (root_value 4 6 ∙ second_value (depth n root) (number_of root) (10 ∷ flat_map (line n) rs) top.number)
 
   records_read : records_of (written n root rs) ≡ rs
   records_read =

@@ -1,11 +1,12 @@
 -- What a step of the writers does to the specification.
-use Rattle.std.proofs.Common.{◌≡◌, ℕ, zero, suc, ◌+◌, ◌-◌, ◌*◌, ◌/◌, ◌%◌, ◌<◌, ◌≤◌, List, [], ◌∷◌, ◌++◌, length, take, drop, set, Some, sym, refl, ap, ◌∙◌, subst, ap₂, append_assoc, add-one, arith, length-append, length-drop}
-use borrow.Rule.Slice.PartMut.{put_mid}
-use Rattle.std.specs.List.{flat_map, slice_get}
-use Rattle.std.proofs.lemmas.List.{drop-set, drop_all, drop-drop, drop_at, take_at, set_split, length-take-le, length_push, flat_map_more}
+use Rattle.std.proofs.Common.{◌≡◌, ℕ, zero, suc, ◌+◌, ◌-◌, ◌*◌, ◌/◌, ◌%◌, ◌<◌, ◌≤◌, List, [], ◌∷◌, ◌++◌, length, take, drop, get_or, set, add-zero, sym, refl, ap, ◌∙◌, ap₂, append-nil, append_assoc, add-one, arith, length-append, length-drop}
+use borrow.Rule.Slice.PartMut.{put_mid, post_of}
+use Rattle.std.specs.List.{flat_map}
+use Rattle.std.proofs.lemmas.List.{drop-set, drop_all, drop-drop, drop_at, take_at, set_split, length-take-le, length_push, flat_map_more, take_more, take_all, get_or-drop}
 use Rattle.listing.specs.declared.Target.{Target}
 use Rattle.listing.specs.declared.Record.{Record}
-use Rattle.text_writing.specs.Writing.{lead, leading, padded, pair, level_of, number_of, aim, header, columns, line, written, Puts}
+use Rattle.listing.specs.Listing.{depth}
+use Rattle.text_writing.specs.Writing.{lead, leading, padded, pair, number_of, aim, header, columns, line, written}
 
 -- the last digit is written
 pub last_digit : (xs : List ℕ) (last v : ℕ) → length xs ≡ last + 1 → padded (last + 1) v ≡ leading last (v / 10) ++ drop last (set xs last (48 + v % 10))
@@ -43,7 +44,7 @@ unfolding pair
 length_pair a b = length-append (padded 4 a) (padded 6 b) ∙ ap₂ ◌+◌ (length_padded 4 a) (length_padded 6 b)
 
 pub length_aim : (n : ℕ) (t : Target) → length (aim n t) ≡ 10
-length_aim n t = length_pair (level_of n t) (number_of t)
+length_aim n t = length_pair (depth n t) (number_of t)
 
 pub length_header : (n m : ℕ) (t : Target) → length (header n m t) ≡ 21
 unfolding header
@@ -57,64 +58,78 @@ pub length_joined : (n : ℕ) (rs : List Record) → length (flat_map (line n) r
 length_joined n [] = refl
 length_joined n (r ∷ rs) = omega (arith, length-append (line n r) (flat_map (line n) rs), length_line n r, length_joined n rs)
 
--- one byte
-pub puts_one : (xs : List ℕ) (at x : ℕ) → at < length xs → Puts at (x ∷ []) xs (set xs at x)
-puts_one xs at x h = set_split xs at x h ∙ ap (λ j. take at xs ++ (x ∷ drop j xs)) (sym (add-one at))
+-- `q` is written behind `p`, which stands in front
+step : (p q a : List ℕ) (i w j : ℕ) → length p ≡ i → i + w ≡ j → put_mid i w (p ++ drop i a) q ≡ (p ++ q) ++ drop j a
+step p q a i w j h e =
+    ap₂ (λ xs ys. xs ++ (q ++ drop w ys)) (take_at p (drop i a) i h) (drop_at p (drop i a) i h) ∙
+    ap (λ ys. p ++ (q ++ ys)) (drop-drop w i a ∙ ap (λ k. drop k a) e) ∙ sym (append_assoc p q (drop j a))
 
--- one column
-pub puts_number : (xs ys : List ℕ) (at w end v : ℕ) → end ≡ at + w → at + w ≤ length xs → ys ≡ padded (length (take (end - at) (drop at xs))) v → Puts at (padded w v) xs (put_mid at (end - at) xs ys)
-puts_number xs ys at w end v e h f =
-    let k : end - at ≡ w = omega arith in
-    let l : length (take (end - at) (drop at xs)) ≡ w = ap (λ j. length (take j (drop at xs))) k ∙ length-take-le w (drop at xs) (simp length-drop (omega arith)) in
-    let m : at + (end - at) ≡ at + length (padded w v) = omega (arith, length_padded w v) in
-    ap₂ (λ zs us. take at xs ++ (zs ++ us)) (f ∙ ap (λ j. padded j v) l) (drop-drop (end - at) at xs ∙ ap (λ j. drop j xs) m)
+-- the last byte
+feed : (p a : List ℕ) (i : ℕ) → length p ≡ i → length a ≡ i + 1 → set (p ++ drop i a) i 10 ≡ p ++ (10 ∷ [])
+feed p a i h l =
+    let m : length (p ++ drop i a) ≡ i + 1 = omega (arith, length-append p (drop i a), length-drop i a, h, l) in
+    let r : drop (suc i) (p ++ drop i a) ≡ [] = drop_all (suc i) (p ++ drop i a) (omega (arith, m)) in
+    set_split (p ++ drop i a) i 10 (omega (arith, m)) ∙ ap₂ (λ xs ys. xs ++ (10 ∷ ys)) (take_at p (drop i a) i h) r
 
--- two pieces, one behind the other
-pub puts_both : (at at' : ℕ) (p q a b c : List ℕ) → at ≤ length a → at' ≡ at + length p → Puts at p a b → Puts at' q b c → Puts at (p ++ q) a c
-puts_both at at' p q a b c h e f g =
-    let l : length (take at a ++ p) ≡ at' = length-append (take at a) p ∙ ap (λ k. k + length p) (length-take-le at a h) ∙ sym e in
-    let whole : b ≡ (take at a ++ p) ++ drop (at + length p) a = f ∙ sym (append_assoc (take at a) p (drop (at + length p) a)) in
-    let front : take at' b ≡ take at a ++ p = ap (take at') whole ∙ take_at (take at a ++ p) (drop (at + length p) a) at' l in
-    let more : at + length p + length q ≡ at + length (p ++ q) = omega (arith, length-append p q) in
-    let rest : drop (at' + length q) b ≡ drop (at + length (p ++ q)) a =
-    sym (drop-drop (length q) at' b) ∙ ap (drop (length q)) (ap (drop at') whole ∙ drop_at (take at a ++ p) (drop (at + length p) a) at' l) ∙
-    drop-drop (length q) (at + length p) a ∙ ap (λ j. drop j a) more in
-    g ∙ ap₂ (λ x y. x ++ (q ++ y)) front rest ∙ append_assoc (take at a) p (q ++ drop (at + length (p ++ q)) a) ∙
-    ap (λ z. take at a ++ z) (sym (append_assoc p q (drop (at + length (p ++ q)) a)))
+-- nothing is left behind the last piece
+filled : (p a : List ℕ) (j : ℕ) → length a ≡ j → p ++ drop j a ≡ p
+filled p a j h = ap (λ ys. p ++ ys) (drop_all j a (omega (arith, h))) ∙ append-nil p
 
-pub puts_pair : (at first second : ℕ) (a b c : List ℕ) → at ≤ length a → Puts at (padded 4 first) a b → Puts (at + 4) (padded 6 second) b c → Puts at (pair first second) a c
-unfolding pair
-puts_pair at first second a b c h f g = puts_both at (at + 4) (padded 4 first) (padded 6 second) a b c h (omega (arith, length_padded 4 first)) f g
+pub pair_made : (a p q : List ℕ) → length a ≡ 10 → length p ≡ 4 → put_mid 4 6 (p ++ post_of 0 4 a) q ≡ p ++ q
+pair_made a p q h k = step p q a 4 6 10 k refl ∙ filled (p ++ q) a 10 h
 
--- a line's end: a target and the line feed
-puts_end : (at at' n : ℕ) (t : Target) (a b c : List ℕ) → at ≤ length a → at' ≡ at + 10 → Puts at (aim n t) a b → Puts at' (10 ∷ []) b c → Puts at (aim n t ++ (10 ∷ [])) a c
-puts_end at at' n t a b c h e f g = puts_both at at' (aim n t) (10 ∷ []) a b c h (omega (arith, length_aim n t)) f g
+pub head_made : (a p q : List ℕ) → length a ≡ 21 → length p ≡ 10 → length q ≡ 10 → set (put_mid 10 10 (p ++ post_of 0 10 a) q) 20 10 ≡ p ++ (q ++ (10 ∷ []))
+head_made a p q h k l =
+    let e : length (p ++ q) ≡ 20 = omega (arith, length-append p q, k, l) in
+    ap (λ ys. set ys 20 10) (step p q a 10 10 20 k refl) ∙ feed (p ++ q) a 20 e h ∙ append_assoc p q (10 ∷ [])
 
-pub puts_header : (n m : ℕ) (t : Target) (a b c d : List ℕ) → 10 ≤ length b → Puts 0 (pair n m) a b → Puts 10 (aim n t) b c → Puts 20 (10 ∷ []) c d → Puts 0 (header n m t) a d
-unfolding header
-puts_header n m t a b c d h f g k =
-    puts_both 0 10 (pair n m) (aim n t ++ (10 ∷ [])) a b d (omega arith) (omega (arith, length_pair n m)) f (puts_end 10 20 n t b c d h refl g k)
+three_made : (w u v : ℕ) (a p q s : List ℕ) → u ≡ w + w → v ≡ u + w → length a ≡ v + 1 → length p ≡ w → length q ≡ w → length s ≡ w → set (put_mid u w (put_mid w w (p ++ drop w a) q) s) v 10 ≡ p ++ (q ++ (s ++ (10 ∷ [])))
+three_made w u v a p q s d e h k l m =
+    let f : length (p ++ q) ≡ u = omega (arith, length-append p q, k, l, d) in
+    let g : length ((p ++ q) ++ s) ≡ v = omega (arith, length-append (p ++ q) s, f, m, e) in
+    ap (λ ys. set (put_mid u w ys s) v 10) (step p q a w w u k (sym d)) ∙ ap (λ ys. set ys v 10) (step (p ++ q) s a u w v f (sym e)) ∙ feed ((p ++ q) ++ s) a v g h ∙
+    append_assoc (p ++ q) s (10 ∷ []) ∙ append_assoc p q (s ++ (10 ∷ []))
 
-pub puts_columns : (at n level number : ℕ) (low high : Target) (a b c d e : List ℕ) → at ≤ length a → at + 10 ≤ length b → at + 20 ≤ length c → Puts at (pair level number) a b → Puts (at + 10) (aim n low) b c → Puts (at + 20) (aim n high) c d → Puts (at + 30) (10 ∷ []) d e → Puts at (columns n level number low high) a e
-unfolding columns
-puts_columns at n level number low high a b c d e ha hb hc f g k l =
-    puts_both at (at + 10) (pair level number) (aim n low ++ (aim n high ++ (10 ∷ []))) a b e ha (omega (arith, length_pair level number)) f
-    (puts_both (at + 10) (at + 20) (aim n low) (aim n high ++ (10 ∷ [])) b c e hb (omega (arith, length_aim n low)) g
-    (puts_end (at + 20) (at + 30) n high c d e hc (omega arith) k l))
+pub line_made : (a : List ℕ) (b c d e f g : ℕ) → length a ≡ 31 → set (put_mid 20 10 (put_mid 10 10 (pair b c ++ post_of 0 10 a) (pair d e)) (pair f g)) 30 10 ≡ pair b c ++ (pair d e ++ (pair f g ++ (10 ∷ [])))
+line_made a b c d e f g h = three_made 10 20 30 a (pair b c) (pair d e) (pair f g) refl refl h (length_pair b c) (length_pair d e) (length_pair f g)
 
--- the records up to a place and the one at it
-pub take_nth : (rs : List Record) (i : ℕ) (r : Record) → Some r ≡ slice_get rs i → take (i + 1) rs ≡ take i rs ++ (r ∷ [])
-take_nth [] i r e = let z : ◌≡◌ {A = ℕ} 0 1 = cc in absurd (omega arith)
-take_nth (x ∷ rs) zero r e = let d : x ≡ r = cc in ap (λ y. y ∷ []) d
-take_nth (x ∷ rs) (suc i) r e =
-    let j : suc i + 1 ≡ suc (i + 1) = omega arith in
-    rw j (ap (λ ys. x ∷ ys) (take_nth rs i r e))
+pub report_made : (a : List ℕ) (b c d : ℕ) → length a ≡ 19 → set (put_mid 12 6 (put_mid 6 6 (padded 6 b ++ post_of 0 6 a) (padded 6 c)) (padded 6 d)) 18 10 ≡ padded 6 b ++ (padded 6 c ++ (padded 6 d ++ (10 ∷ [])))
+report_made a b c d h = three_made 6 12 18 a (padded 6 b) (padded 6 c) (padded 6 d) refl refl h (length_padded 6 b) (length_padded 6 c) (length_padded 6 d)
 
--- one more line
-pub puts_more : (n m i : ℕ) (rs : List Record) (r : Record) (a b c : List ℕ) → m ≡ n → 21 ≤ length a → i < length rs → Some r ≡ slice_get rs i → Puts 21 (flat_map (line n) (take i rs)) a b → Puts (21 + 31 * i) (line m r) b c → Puts 21 (flat_map (line n) (take (i + 1) rs)) a c
-puts_more n m i rs r a b c same h lt e f g =
-    let l : 21 + 31 * i ≡ 21 + length (flat_map (line n) (take i rs)) = omega (arith, length_joined n (take i rs), length-take-le i rs (omega arith)) in
-    rw (take_nth rs i r e, ← flat_map_more (line n) [] (take i rs) r) (puts_both 21 (21 + 31 * i) (flat_map (line n) (take i rs)) (line n r) a b c h l f (subst (λ k. Puts (21 + 31 * i) (line k r) b c) same g))
+-- the lines of the first k records stand in front of `before`, and `rest` is to come
+pub record Filled (n : ℕ) (rs : List Record) (k : ℕ) (rest : List Record) (before after : List ℕ) : Type 0 where
+  pub few : k ≤ length rs
+  pub left : rest ≡ drop k rs
+  pub lines : after ≡ flat_map (line n) (take k rs) ++ drop (31 * k) before
+
+-- one line more
+module _ (n : ℕ) (rs : List Record) (k : ℕ) (r : Record) (rest more : List Record) (before after : List ℕ) (f : Filled n rs k rest before after) (next : rest ≡ r ∷ more) where
+  cut : drop k rs ≡ r ∷ more
+  cut = sym f.left ∙ next
+
+  room : k < length rs
+  room = omega (arith, ap length cut, length-drop k rs)
+
+  pub filled_more : (m i w k' : ℕ) (q : List ℕ) → m ≡ n → q ≡ line m r → i ≡ 31 * k → w ≡ 31 → k' ≡ k + 1 → Filled n rs k' more before (put_mid i w after q)
+  filled_more m i w k' q same made e d up =
+      let p : List ℕ = flat_map (line n) (take k rs) in
+      let l : length p ≡ i = omega (arith, length_joined n (take k rs), length-take-le k rs f.few, e) in
+      let a : after ≡ p ++ drop i before = f.lines ∙ ap (λ j. p ++ drop j before) (sym e) in
+      let one : get_or rs k r ≡ r = ap (λ j. get_or rs j r) (sym (add-zero k)) ∙ sym (get_or-drop k rs 0 r) ∙ ap (λ xs. get_or xs 0 r) cut in
+      let t : take k' rs ≡ take k rs ++ (r ∷ []) = ap (λ j. take j rs) up ∙ take_more rs k r room ∙ ap (λ x. take k rs ++ (x ∷ [])) one in
+      record {
+        few = omega (arith, room, up);
+        left = sym (ap (λ j. drop j rs) up ∙ sym (drop-drop 1 k rs) ∙ ap (drop 1) cut);
+        lines =
+            ap₂ (λ xs ys. put_mid i w xs ys) a (made ∙ ap (λ j. line j r) same) ∙ step p (line n r) before i w (31 * k') l (omega (arith, e, d, up)) ∙
+            ap (λ ys. ys ++ drop (31 * k') before) (flat_map_more (line n) [] (take k rs) r ∙ ap (flat_map (line n)) (sym t));
+      }
+
+-- no record is to come
+pub filled_all : (n : ℕ) (rs : List Record) (k : ℕ) (rest : List Record) (before after : List ℕ) → Filled n rs k rest before after → rest ≡ [] → length before ≡ 31 * length rs → after ≡ flat_map (line n) rs
+filled_all n rs k rest before after f none l =
+    let e : length rs - k ≡ 0 = sym (length-drop k rs) ∙ ap length (sym f.left ∙ none) in
+    f.lines ∙ ap₂ (λ xs ys. flat_map (line n) xs ++ ys) (take_all k rs (omega (arith, e))) (drop_all (31 * k) before (omega (arith, e, l))) ∙ append-nil (flat_map (line n) rs)
 
 -- the whole text
 pub length_written : (n : ℕ) (t : Target) (rs : List Record) → length (written n t rs) ≡ 21 + 31 * length rs
@@ -122,18 +137,7 @@ unfolding written
 length_written n t rs =
     length-append (header n (length rs) t) (flat_map (line n) rs) ∙ ap₂ ◌+◌ (length_header n (length rs) t) (length_joined n rs)
 
-pub puts_text : (n m : ℕ) (t : Target) (rs : List Record) (a b c : List ℕ) (len : ℕ) → len ≡ 21 + 31 * length rs → m ≡ length rs → Puts 0 (header n m t) a b → Puts 21 (flat_map (line n) rs) b c → c ≡ written n t rs ++ drop len a
+pub text_made : (n : ℕ) (t : Target) (rs : List Record) (a h l : List ℕ) (len : ℕ) → len ≡ 21 + 31 * length rs → h ≡ header n (length rs) t → l ≡ flat_map (line n) rs → put_mid 21 (len - 21) (h ++ post_of 0 21 a) l ≡ written n t rs ++ drop len a
 unfolding written
-puts_text n m t rs a b c len l e f g =
-    puts_both 0 21 (header n (length rs) t) (flat_map (line n) rs) a b c (omega arith) (omega (arith, length_header n (length rs) t)) (subst (λ k. Puts 0 (header n k t) a b) e f) g ∙
-    ap (λ j. written n t rs ++ drop j a) (let z : 0 + length (written n t rs) ≡ len = omega (arith, length_written n t rs) in z)
-
--- a fault's line, column by column
-pub puts_report : (x y z : ℕ) (a b c d e : List ℕ) → 6 ≤ length b → 12 ≤ length c → Puts 0 (padded 6 x) a b → Puts 6 (padded 6 y) b c → Puts 12 (padded 6 z) c d → Puts 18 (10 ∷ []) d e → Puts 0 (padded 6 x ++ (padded 6 y ++ (padded 6 z ++ (10 ∷ [])))) a e
-puts_report x y z a b c d e lb lc p q r s =
-    puts_both 0 6 (padded 6 x) (padded 6 y ++ (padded 6 z ++ (10 ∷ []))) a b e (omega arith) (omega (arith, length_padded 6 x)) p
-    (puts_both 6 12 (padded 6 y) (padded 6 z ++ (10 ∷ [])) b c e lb (omega (arith, length_padded 6 y)) q
-    (puts_both 12 18 (padded 6 z) (10 ∷ []) c d e lc (omega (arith, length_padded 6 z)) r s))
-
-pub length_report : (x y z : ℕ) → length (padded 6 x ++ (padded 6 y ++ (padded 6 z ++ (10 ∷ [])))) ≡ 19
-length_report x y z = simp (length-append, length_padded)
+text_made n t rs a h l len e f g =
+    ap₂ (λ xs ys. put_mid 21 (len - 21) (xs ++ post_of 0 21 a) ys) f g ∙ step (header n (length rs) t) (flat_map (line n) rs) a 21 (len - 21) len (length_header n (length rs) t) (omega (arith, e))

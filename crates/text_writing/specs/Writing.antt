@@ -1,11 +1,11 @@
 -- The text of a listing, byte for byte, and what it tells when it is opened again.
-use Rattle.std.specs.Prelude.{◌≡◌, ℕ, zero, suc, ◌+◌, ◌*◌, ◌/◌, ◌%◌, ◌≤◌, cond, List, [], ◌∷◌, ◌++◌, length, take, drop, None, ◌==◌}
+use Rattle.std.specs.Prelude.{◌≡◌, ℕ, zero, suc, ◌+◌, ◌*◌, ◌/◌, ◌%◌, ◌≤◌, cond, List, [], ◌∷◌, ◌++◌, length, drop, None, ◌==◌}
 use Rattle.std.specs.List.{flat_map}
 use Rattle.listing.specs.declared.Target.{Target}
 use Rattle.listing.specs.declared.Target.TheVariants.{Node, False, True}
 use Rattle.listing.specs.declared.Record.{Record}
 use Rattle.listing.specs.declared.reports.Report.{Report}
-use Rattle.listing.specs.Listing.{Listing}
+use Rattle.listing.specs.Listing.{depth, Listing}
 use Rattle.text.specs.Layout.{facts_of, root_of, records_of, text_fault}
 
 -- the last digit of v, or a blank where v is 0
@@ -26,12 +26,7 @@ padded (suc width) v = leading width (v / 10) ++ ((48 + v % 10) ∷ [])
 unfoldable pub pair : ℕ → ℕ → List ℕ
 pair first second = padded 4 first ++ padded 6 second
 
--- the level and the number that a target is written by: False is on level n with number 0, True with number 1
-abbrev pub level_of : ℕ → Target → ℕ
-level_of n (Node l k) = l
-level_of n False = n
-level_of n True = n
-
+-- the number that a target is written by, on its depth as its level: False is on level n with number 0, True with number 1
 abbrev pub number_of : Target → ℕ
 number_of (Node l k) = k
 number_of False = 0
@@ -39,7 +34,7 @@ number_of True = 1
 
 -- a target's columns
 abbrev pub aim : ℕ → Target → List ℕ
-aim n t = pair (level_of n t) (number_of t)
+aim n t = pair (depth n t) (number_of t)
 
 -- the header line: n, N and the root
 unfoldable pub header : ℕ → ℕ → Target → List ℕ
@@ -56,10 +51,6 @@ line n r = columns n r.level r.number r.low r.high
 -- the text of a listing: the header, then a line for each record
 unfoldable pub written : ℕ → Target → List Record → List ℕ
 written n root rs = header n (length rs) root ++ flat_map (line n) rs
-
--- `piece` was written over `before` from `at` on
-abbrev pub Puts : ℕ → List ℕ → List ℕ → List ℕ → Type 0
-Puts at piece before after = after ≡ take at before ++ (piece ++ drop (at + length piece) before)
 
 -- the bytes are a text without a fault that tells n, the root and the records
 pub record Tells (n : ℕ) (top : Target) (rs : List Record) (bs : List ℕ) : Type 0 where

@@ -12,12 +12,12 @@ pub enum WriteFault {
     Short,
 }
 
-impl WriteFault {
+impl From<WriteFault> for Report {
+    ghost from_gives = { λ fault report. report ≡ told_write fault };
+
     /// The fault's number, place and detail.
-    pub fn report(self) -> Report
-        ensures { result ≡ told_write self }
-    {
-        match self {
+    fn from(fault: WriteFault) -> Report {
+        match fault {
             WriteFault::Short => Report {
                 number: 18,
                 place: 0,

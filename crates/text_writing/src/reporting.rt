@@ -1,40 +1,33 @@
 // Writing what is told of a fault: its number, place and detail in three columns of 6 and a line feed.
 
-ghost use Rattle.std.specs.Prelude.{◌≡◌, ◌+◌, ◌<◌, ◌≤◌, length, MatchResult};
-ghost use Rattle.text_writing.specs.Writing.{padded, Puts, report_line, Reported};
+ghost use Rattle.std.specs.Prelude.{◌≡◌, ◌<◌, length, MatchResult};
+ghost use Rattle.text_writing.specs.Writing.{padded, report_line, Reported};
 
 use crate::faults::WriteFault;
-use crate::writing::{put_feed, put_number};
+use crate::writing::put_number;
 use listing::reports::Report;
 
 /// How many bytes the line of a fault has, its line feed included.
 pub const REPORT: usize = 19;
 
-// Writes a column of 6 from `at` on.
-fn put_column(out: &mut [u8], at: usize, value: u32)
-    requires { at + 6 ≤ length out.old }
-    ensures { Puts at (padded 6 value) out.old out.new }
+// Fills a column of 6.
+fn put_column(column: &mut [u8], value: u32)
+    requires { length column.old ≡ 6 }
+    ensures { column.new ≡ padded 6 value }
 {
-    put_number(&mut out[at..at + 6], value as usize);
+    put_number(column, value as usize);
 }
 
-// Writes a fault's line in front.
+// Fills a fault's line.
+#[tactic(auto, using(crate::proofs::Written::report_made))]
 fn put_report(out: &mut [u8], report: Report)
-    requires { 19 ≤ length out.old }
-    ensures { Puts 0 (report_line report) out.old out.new }
+    requires { length out.old ≡ 19 }
+    ensures { out.new ≡ report_line report }
 {
-    put_column(out, 0, report.number);
-    put_column(out, 6, report.place);
-    put_column(out, 12, report.detail);
-    put_feed(out, 18);
-}
-
-// The same, with what it leaves said plainly.
-fn report_text(out: &mut [u8], report: Report)
-    requires { 19 ≤ length out.old }
-    ensures { Reported report out.old out.new 19 }
-{
-    put_report(out, report);
+    put_column(&mut out[0..6], report.number);
+    put_column(&mut out[6..12], report.place);
+    put_column(&mut out[12..18], report.detail);
+    out[18] = b'\n';
 }
 
 /// Writes a fault's line to the buffer's front, and tells its length, 19; the bytes behind it stay as they are. Where
@@ -45,6 +38,6 @@ pub fn write_report(report: Report, buffer: &mut [u8]) -> Result<usize, WriteFau
     if buffer.len() < REPORT {
         return Err(WriteFault::Short);
     }
-    report_text(buffer, report);
+    put_report(&mut buffer[0..REPORT], report);
     Ok(REPORT)
 }

@@ -1,13 +1,14 @@
 // Writing a text: any source's listing, into the caller's buffer, in columns as specs/Writing has them. Each number
 // is written from its last digit on, so a text costs one division by ten a byte, and nothing is allocated.
 
-ghost use Rattle.std.specs.Prelude.{◌≡◌, ◌+◌, ◌*◌, ◌<◌, ◌≤◌, [], ◌∷◌, length, take, IfOk, MatchOption, MatchResult};
+ghost use Rattle.std.specs.Prelude.{◌≡◌, ◌+◌, ◌*◌, ◌<◌, ◌≤◌, length, take, IfOk, MatchOption, MatchResult};
 ghost use Rattle.std.specs.List.{flat_map};
-ghost use Rattle.text_writing.specs.Writing.{lead, padded, pair, level_of, number_of, aim, header, columns, line, Puts, Wrote, OpensAgain};
+ghost use Rattle.text_writing.specs.Writing.{lead, padded, pair, number_of, aim, header, line, Wrote, OpensAgain};
 
 use crate::faults::WriteFault;
 use listing::{Record, Target};
 use source::Source;
+use source::walking::each_record;
 use text::opening::{HEADER, LINE};
 
 // The last digit of what is left of a number, or a blank where nothing is left.
@@ -29,30 +30,21 @@ pub(crate) fn put_number(column: &mut [u8], value: usize)
     let last = column.len() - 1;
     column[last] = b'0' + (value % 10) as u8;
     let mut rest = value / 10;
+    // By places: of what is written through `iter_mut().rev()` the library tells nothing.
     for i in (0..last).rev() {
         column[i] = lead(rest);
         rest /= 10;
     }
 }
 
-// Writes two columns from `at` on.
-fn put_pair(out: &mut [u8], at: usize, first: usize, second: usize)
-    requires { at + 10 ≤ length out.old }
-    ensures { Puts at (pair first second) out.old out.new }
+// Fills two columns, 4 and 6 wide.
+#[tactic(auto, using(crate::proofs::Written::pair_made), unfolding(crate::specs::Writing::pair))]
+fn put_pair(columns: &mut [u8], first: usize, second: usize)
+    requires { length columns.old ≡ 10 }
+    ensures { columns.new ≡ pair first second }
 {
-    put_number(&mut out[at..at + 4], first);
-    put_number(&mut out[at + 4..at + 10], second);
-}
-
-// The level that a target is written by.
-fn level_of(n: u16, target: Target) -> u16
-    ensures { result ≡ level_of n target }
-{
-    match target {
-        Target::Node { level, number: _ } => level,
-        Target::False => n,
-        Target::True => n,
-    }
+    put_number(&mut columns[0..4], first);
+    put_number(&mut columns[4..10], second);
 }
 
 // The number that a target is written by.
@@ -60,89 +52,65 @@ fn number_of(target: Target) -> u32
     ensures { result ≡ number_of target }
 {
     match target {
-        Target::Node { level: _, number } => number,
+        Target::Node { number, .. } => number,
         Target::False => 0,
         Target::True => 1,
     }
 }
 
-// Writes a target's columns from `at` on.
-fn put_target(out: &mut [u8], at: usize, n: u16, target: Target)
-    requires { at + 10 ≤ length out.old }
-    ensures { Puts at (aim n target) out.old out.new }
+// Fills a target's two columns.
+fn put_target(columns: &mut [u8], n: u16, target: Target)
+    requires { length columns.old ≡ 10 }
+    ensures { columns.new ≡ aim n target }
 {
     put_pair(
-        out,
-        at,
-        level_of(n, target) as usize,
+        columns,
+        target.depth(n) as usize,
         number_of(target) as usize,
     );
 }
 
-// Ends a line: the byte at `at` becomes a line feed.
-pub(crate) fn put_feed(out: &mut [u8], at: usize)
-    requires { at < length out.old }
-    ensures { Puts at (10 ∷ []) out.old out.new }
-{
-    out[at] = b'\n';
-}
-
-// Writes the columns of the header line, and its line feed.
+// Fills the header line of the text of a listing of `count` records.
+#[tactic(auto, using(crate::proofs::Written::head_made), unfolding(crate::specs::Writing::header))]
 fn put_heading(out: &mut [u8], n: u16, count: usize, root: Target)
-    requires { 21 ≤ length out.old }
-    ensures { Puts 0 (header n count root) out.old out.new }
+    requires { length out.old ≡ 21 }
+    ensures { out.new ≡ header n count root }
 {
-    put_pair(out, 0, n as usize, count);
-    put_target(out, 10, n, root);
-    put_feed(out, 20);
+    put_pair(&mut out[0..10], n as usize, count);
+    put_target(&mut out[10..20], n, root);
+    out[20] = b'\n';
 }
 
-// Writes the header line of a source's text.
+// Fills the header line of a source's text.
 fn put_header<S: Source>(source: &S, out: &mut [u8])
-    requires { 21 ≤ length out.old }
-    ensures { Puts 0 (header (S.facts source.now) (length (S.listed source.now)) (S.top source.now)) out.old out.new }
+    requires { length out.old ≡ 21 }
+    ensures { out.new ≡ header (S.facts source.now) (length (S.listed source.now)) (S.top source.now) }
 {
     put_heading(out, source.n(), source.count(), source.root());
 }
 
-// Writes the columns of a record's line from `at` on, and its line feed.
-fn put_columns(
-    out: &mut [u8],
-    at: usize,
-    n: u16,
-    level: u16,
-    number: u32,
-    low: Target,
-    high: Target,
-)
-    requires { at + 31 ≤ length out.old }
-    ensures { Puts at (columns n level number low high) out.old out.new }
+// Fills a record's line.
+#[tactic(auto, using(crate::proofs::Written::line_made), unfolding(crate::specs::Writing::columns))]
+fn put_line(out: &mut [u8], n: u16, r: Record)
+    requires { length out.old ≡ 31 }
+    ensures { out.new ≡ line n r }
 {
-    put_pair(out, at, level as usize, number as usize);
-    put_target(out, at + 10, n, low);
-    put_target(out, at + 20, n, high);
-    put_feed(out, at + 30);
+    put_pair(&mut out[0..10], r.level as usize, r.number as usize);
+    put_target(&mut out[10..20], n, r.low);
+    put_target(&mut out[20..30], n, r.high);
+    out[30] = b'\n';
 }
 
-// Writes a record's line from `at` on.
-fn put_line(out: &mut [u8], at: usize, n: u16, r: Record)
-    requires { at + 31 ≤ length out.old }
-    ensures { Puts at (line n r) out.old out.new }
-{
-    put_columns(out, at, n, r.level, r.number, r.low, r.high);
-}
-
-// Writes a line for each record, behind the header.
+// Fills the lines behind the header, one for each record.
 fn put_lines<S: Source>(source: &S, out: &mut [u8])
-    requires { 21 + 31 * length (S.listed source.now) ≤ length out.old }
-    ensures { Puts 21 (flat_map (line (S.facts source.now)) (S.listed source.now)) out.old out.new }
+    requires { length out.old ≡ 31 * length (S.listed source.now) }
+    ensures { out.new ≡ flat_map (line (S.facts source.now)) (S.listed source.now) }
 {
     let n = source.n();
-    for place in 0..source.count() {
-        let Some(r) = source.record(place) else {
-            return;
-        };
-        put_line(out, HEADER + LINE * place, n, r);
+    // By places: of what is written through `chunks_exact_mut` the library tells nothing.
+    for (place, r) in each_record(source).enumerate() {
+        let at = LINE * place;
+        put_line(&mut out[at..at + LINE], n, r);
     }
 }
 
@@ -153,18 +121,16 @@ fn put_text<S: Source>(source: &S, out: &mut [u8], len: usize)
     ensures wrote { Wrote (S.facts source.now) (S.top source.now) (S.listed source.now) out.old out.new len }
     ensures again { OpensAgain (S.facts source.now) (S.top source.now) (S.listed source.now) (take len out.new) }
 {
-    put_header(source, out);
-    put_lines(source, out);
+    put_header(source, &mut out[0..HEADER]);
+    put_lines(source, &mut out[HEADER..len]);
 }
 
 // How many bytes the text of `count` records has, absent where `room` bytes do not hold it.
 fn text_len(count: usize, room: usize) -> Option<usize>
     ensures { MatchOption result (room < 21 + 31 * count) (λ len. (len ≡ 21 + 31 * count) × (len ≤ room)) }
 {
-    if room < HEADER || (room - HEADER) / LINE < count {
-        return None;
-    }
-    Some(HEADER + LINE * count)
+    let len = LINE.checked_mul(count)?.checked_add(HEADER)?;
+    if len <= room { Some(len) } else { None }
 }
 
 /// Writes the text of a source's listing to the buffer's front, and tells its length, 21 + 31 × N; the bytes behind
@@ -175,11 +141,7 @@ pub fn write<S: Source>(source: &S, buffer: &mut [u8]) -> Result<usize, WriteFau
     ensures wrote { MatchResult result (λ len. Wrote (S.facts source.now) (S.top source.now) (S.listed source.now) buffer.old buffer.new len) (λ _. (length buffer.old < 21 + 31 * length (S.listed source.now)) × (buffer.new ≡ buffer.old)) }
     ensures again { IfOk result (λ len. OpensAgain (S.facts source.now) (S.top source.now) (S.listed source.now) (take len buffer.new)) }
 {
-    match text_len(source.count(), buffer.len()) {
-        None => Err(WriteFault::Short),
-        Some(len) => {
-            put_text(source, buffer, len);
-            Ok(len)
-        }
-    }
+    let len = text_len(source.count(), buffer.len()).ok_or(WriteFault::Short)?;
+    put_text(source, buffer, len);
+    Ok(len)
 }

@@ -4,7 +4,7 @@ use Rattle.source.proofs.Places.{front_more}
 use Rattle.rows.specs.Rows.{no_row, entry_of}
 use Rattle.reduce.proofs.loading.copy_out.Goals as goal
 
-pub loop-i-preserved : goal.loop-i-preserved
-loop-i-preserved c =
-    ap₂ (λ xs v. set xs c.loop-i.i v) c.loop-i.invariant c.record.ensures ∙
-    front_more entry_of c.args.rows.now c.args.records.now c.loop-i.i (get_or c.args.rows.now c.loop-i.i no_row) (sym (slice_get-get_or c.args.rows.now c.loop-i.i no_row (omega arith))) (omega arith)
+pub loop-place-preserved : goal.loop-place-preserved
+loop-place-preserved c =
+    ap₂ (λ xs v. set xs c.loop-place.place v) c.loop-place.invariant c.from.ensures ∙
+    front_more entry_of c.args.rows.now c.args.records.now c.loop-place.place (get_or c.args.rows.now c.loop-place.place no_row) (sym (slice_get-get_or c.args.rows.now c.loop-place.place no_row (omega arith))) (omega arith)

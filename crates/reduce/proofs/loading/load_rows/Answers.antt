@@ -1,8 +1,12 @@
-use Rattle.reduce.proofs.Loads.{works_from}
+use Rattle.std.proofs.Common.{◌≡◌, Err, map, take, arith, rules}
+use Rattle.std.proofs.lemmas.List.{length-map}
+use Rattle.reduce.specs.declared.faults.LoadFault.TheVariants as fault
+use Rattle.rows.specs.Rows.{entry_of}
 use Rattle.reduce.proofs.loading.load_rows.Goals as goal
 
-pub returns : goal.returns
-returns g c =
-    works_from (g.S.Source.facts c.args.source.now) (g.S.Source.top c.args.source.now) (g.S.Source.listed c.args.source.now) c.args.records.now c.copy_out.new.records
-    c.reduce_placed-reduced.result c.reduce_placed-reduced.new.rows c.copy_out.result
-    c.in_ok-check_rules.ensures.0 c.reduce_placed-reduced.ensures.normal c.reduce_placed-reduced.ensures.count c.copy_out.ensures
+pub returns-in_err-copy_out : goal.returns-in_err-copy_out
+returns-in_err-copy_out g c =
+    let e : c.from_residual-in_err-copy_out.result ≡ Err fault.Space = search rules in
+    let normal = take c.reduce_placed-reduced.result.count c.reduce_placed-reduced.new.rows in
+    let lack = c.in_err-copy_out.ensures in
+    rw e (c.reduce_placed-reduced.result.root, map entry_of normal, c.reduce_placed-reduced.ensures.fitting, omega (arith, lack.1, length-map normal entry_of), lack.2)

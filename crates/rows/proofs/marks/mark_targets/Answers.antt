@@ -1,9 +1,6 @@
 use Rattle.std.proofs.Common.{true, false, arith}
-use Rattle.rows.proofs.Marking.{marks_start, inside_kept, marks_next}
+use Rattle.rows.proofs.Marking.{inside_kept, marks_next}
 use Rattle.rows.proofs.marks.mark_targets.Goals as goal
-
-pub loop-place-init : goal.loop-place-init
-loop-place-init c = (c.requires.bare, marks_start c.args.rows.now c.requires.bare)
 
 pub mark-requires : goal.mark-requires
 mark-requires c = inside_kept _ c.args.rows.now c.loop-place.rows c.loop-place.invariant.0 c.requires.inside c.loop-place.auto.rows c.loop-place.place (omega arith) false

@@ -1,9 +1,10 @@
-use Rattle.std.proofs.Common.{◌≡◌, ℕ, ◌<◌, map, take}
+use Rattle.std.proofs.Common.{◌≡◌, ℕ, ◌<◌, map}
+use Rattle.rows.specs.Rows.{entry_of}
 use Rattle.rows.specs.Breaks.{Mistargeted}
-use Rattle.rows.specs.Placing.{placed_row}
+use Rattle.rows.proofs.Finding.{filled}
 use Rattle.rows.proofs.places.target_break.Given as goal
 
 abbrev pub invariant-loop-place : goal.invariant-loop-place
-invariant-loop-place g l =
-    ((k : ℕ) → k < l.place → Mistargeted (g.S.Source.listed l.source) k → ⊥) ×
-    (take l.place l.rows ≡ map (placed_row (g.S.Source.listed l.source)) (take l.place (g.S.Source.listed l.source)))
+invariant-loop-place l =
+    ((k : ℕ) → k < l.place → Mistargeted (map entry_of l.initial.rows) k → ⊥) ×
+    (l.rows ≡ filled (map entry_of l.initial.rows) (map entry_of l.initial.rows) l.place)

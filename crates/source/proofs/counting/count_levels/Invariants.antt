@@ -1,5 +1,5 @@
 use Rattle.source.proofs.Levels.{Counts}
 use Rattle.source.proofs.counting.count_levels.Given as goal
 
-abbrev pub invariant-loop-place : goal.invariant-loop-place
-invariant-loop-place g l = Counts l.counts (g.S.Source.listed l.source) l.place
+abbrev pub invariant-loop-r : goal.invariant-loop-r
+invariant-loop-r g l = Counts l.counts l.yielded

@@ -1,6 +1,6 @@
-use Rattle.std.proofs.Common.{◌≡◌, ◌-◌, length}
+use Rattle.std.proofs.Common.{◌≡◌, length}
 use Rattle.pairs.specs.Keys.{key_of}
-use Rattle.sweep.specs.Reading.{Reads}
+use Rattle.sweep.specs.Reading.{Reached}
 use Rattle.sweep.specs.Running.{run_of}
 use Rattle.sweep.proofs.Stages.{Stage}
 use Rattle.sweep.proofs.running.open_rows.Given as goal
@@ -8,12 +8,9 @@ use Rattle.sweep.proofs.running.open_rows.Given as goal
 abbrev pub invariant-loop-row : goal.invariant-loop-row
 invariant-loop-row g l =
     let q = g.Q.Queue in
-    q.kept l.queue × (q.room l.queue ≡ q.room l.initial.queue) ×
+    (q.room l.queue ≡ q.room l.initial.queue) ×
     (l.key ≡ key_of (g.L.Source.facts l.left) l.key.pair) ×
-    Reads (g.L.Source.listed l.left) l.task.left l.key.level l.readers.left ×
-    Reads (g.R.Source.listed l.right) l.task.right l.key.level l.readers.right ×
+    Reached (g.L.Source.listed l.left) l.key.level l.cursor.left ×
+    Reached (g.R.Source.listed l.right) l.key.level l.cursor.right ×
     Stage (run_of (g.L.Source.facts l.left) (g.L.Source.top l.left) (g.L.Source.listed l.left) (g.R.Source.top l.right) (g.R.Source.listed l.right) l.task)
     (length l.initial.rows) (q.room l.initial.queue) l.initial.rows l.row l.key.pair l.rows (q.waiting l.queue)
-
-abbrev pub decreases-loop-row : goal.decreases-loop-row
-decreases-loop-row g l = length l.initial.rows - l.row

@@ -1,9 +1,13 @@
-use Rattle.std.proofs.Common.{◌≡◌, ◌-◌, length, get_or, ◌∙◌, inl, inr, ⊎_elim, arith}
-use Rattle.text.proofs.Numbers.{digits_yes, digits_no, digits_end, value_below, pow_8, pow_pos_10}
+use Rattle.std.proofs.Common.{◌≡◌, ◌-◌, length, get_or, sym, ◌∙◌, lit<, arith}
+use Rattle.std.proofs.Math.Nat.{one-le-pow}
+use Rattle.text.proofs.Numbers.{digits_yes, digits_no, digits_end, value_below, pow_8}
 use Rattle.text.proofs.columns.digits_of.Goals as goal
 
-pub returns-then-d-lt48 : goal.returns-then-d-lt48
-returns-then-d-lt48 c = record { value = digits_no c.args.text.now c.loop-b.b-index c.loop-b.value (omega arith) (⊎_elim inl (λ h. inr h.1) c.then-d-lt48.either) ∙ c.loop-b.invariant.0; below = pow_pos_10 (length c.args.text.now) }
+pub returns-then-not-is_ascii_digit : goal.returns-then-not-is_ascii_digit
+returns-then-not-is_ascii_digit c = record {
+  value = digits_no c.args.text.now c.loop-b.b-index c.loop-b.value (omega arith) (sym c.if-not-is_ascii_digit.ensures.value) ∙ c.loop-b.invariant.0;
+  below = one-le-pow (length c.args.text.now) 10 (lit< tt);
+}
 
 pub overflow_mul-value : goal.overflow_mul-value
 overflow_mul-value c = omega (arith, pow_8 c.loop-b.b-index (omega arith))
@@ -13,8 +17,8 @@ overflow_add-value c = omega (arith, pow_8 c.loop-b.b-index (omega arith))
 
 pub loop-b-preserved : goal.loop-b-preserved
 loop-b-preserved c = (
-  digits_yes c.args.text.now c.loop-b.b-index c.loop-b.value (omega arith) (omega arith) (omega arith) ∙ c.loop-b.invariant.0,
-  value_below c.loop-b.value (get_or c.args.text.now c.loop-b.b-index 0 - 48) c.loop-b.b-index c.loop-b.invariant.1 (omega arith),
+  digits_yes c.args.text.now c.loop-b.b-index c.loop-b.value (omega arith) (sym c.if-not-is_ascii_digit.ensures.value) ∙ c.loop-b.invariant.0,
+  value_below c.loop-b.value (get_or c.args.text.now c.loop-b.b-index 0 - 48) c.loop-b.b-index c.loop-b.invariant.1 (grind arith),
 )
 
 pub returns : goal.returns

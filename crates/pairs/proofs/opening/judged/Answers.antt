@@ -1,6 +1,0 @@
-use Rattle.pairs.specs.Pairs.{verdict}
-use Rattle.pairs.proofs.opening.judged.Goals as goal
-
-pub returns : goal.returns
-unfolding verdict
-returns c = c.requires
