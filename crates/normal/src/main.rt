@@ -6,13 +6,13 @@
 use anyhow::anyhow;
 use listing::Record;
 use normalizing::texts::{MOST_BYTES, MOST_RECORDS, normal_bytes};
-use rows::row::ZERO;
+use rows::row::Row;
 use std::io::{Read, Write};
 
 fn run(rt: &HostRuntime) -> anyhow::Result<()> {
     let mut input = Vec::new(rt.alloc());
     rt.stdin().read_to_end(&mut input)?;
-    let mut rows = vec![in rt.alloc(); ZERO; MOST_RECORDS]?;
+    let mut rows = vec![in rt.alloc(); Row::default(); MOST_RECORDS]?;
     let mut records = vec![in rt.alloc(); Record::default(); MOST_RECORDS]?;
     let mut output = vec![in rt.alloc(); 0u8; MOST_BYTES]?;
     match normal_bytes(

@@ -24,6 +24,8 @@ pub enum NormalFault {
     Write(WriteFault),
 }
 
+// The next three are written out: a derive gives `From` no contract.
+
 impl From<TextFault> for NormalFault {
     ghost from_gives = { λ x y. y ≡ Text x };
 

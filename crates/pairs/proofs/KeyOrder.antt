@@ -1,13 +1,17 @@
 -- Keys are ordered as the pairs.
-use Rattle.std.proofs.Common.{◌≡◌, ◌<◌, ◌⊎◌, Ordering, Less, Equal, Greater, sym, inl, inr, ⊎_elim}
-use Rattle.std.specs.Cmp.{ranks}
-use Rattle.std.specs.Ordering.{ordering_then, MatchOrdering, nat_cmp}
+use Rattle.std.proofs.Common.{◌≡◌, ◌<◌, ◌&&◌, ◌⊎◌, Ordering, Less, Equal, Greater, sym, ap₂, ◌∙◌, inl, inr, ⊎_elim}
+use Rattle.std.specs.Bool.{◌==◌}
+use Rattle.std.specs.Cmp.{ranks, both_tied, unsigned_ties}
+use Rattle.std.specs.Ordering.{ordering_then, eq_by_cmp, MatchOrdering, nat_cmp}
 use Rattle.listing.specs.Listing.{Before}
-use Rattle.listing.specs.Ranks.{rank_target, ranks_target}
-use Rattle.listing.proofs.Derived.{target_cmp}
+use Rattle.listing.specs.Ranks.{rank_target, ranks_target, target_ties}
+use Rattle.listing.specs.Tests.{same_target}
+use Rattle.listing.proofs.Derived.{target_same, target_cmp}
 use Rattle.pairs.specs.declared.Pair.{Pair}
 use Rattle.pairs.specs.Pairs.{Run, level, Ahead}
 use Rattle.pairs.specs.contracts.keys.PairKeyOrd.TheImpl as by_key
+use Rattle.pairs.specs.contracts.keys.PairKeyPartialEq.TheImpl as same_key
+use Rattle.pairs.specs.declared.keys.PairKey.{PairKey}
 use Rattle.pairs.specs.Keys.{key_of, rank_key}
 use Rattle.pairs.proofs.PairOrder.{Precedes, ahead_decides, pair_path}
 
@@ -38,3 +42,10 @@ meets r p q =
 -- the derived comparison of keys is that order
 pub key_cmp : (by_key.ghosts).cmp ≡ rank_key
 key_cmp = λ i x y. ordering_then (nat_cmp x.level y.level) (ordering_then (target_cmp x.pair.left y.pair.left i) (target_cmp x.pair.right y.pair.right i))
+
+-- and the derived equality holds where two keys tie in it
+pub key_eq : (x y : PairKey) → (same_key.ghosts).eq x y ≡ eq_by_cmp rank_key x y
+key_eq x y =
+    ap₂ (λ a b. (x.level == y.level) && (a && b)) (target_same x.pair.left y.pair.left) (target_same x.pair.right y.pair.right) ∙
+    both_tied (x.level == y.level) (same_target x.pair.left y.pair.left && same_target x.pair.right y.pair.right) (nat_cmp x.level y.level) (ordering_then (rank_target x.pair.left y.pair.left) (rank_target x.pair.right y.pair.right)) (unsigned_ties x.level y.level)
+    (both_tied (same_target x.pair.left y.pair.left) (same_target x.pair.right y.pair.right) (rank_target x.pair.left y.pair.left) (rank_target x.pair.right y.pair.right) (target_ties x.pair.left y.pair.left) (target_ties x.pair.right y.pair.right))

@@ -55,6 +55,7 @@ impl From<Operator> for u8 {
     }
 }
 
+// Number by number: a number becomes a variant in no other way.
 impl TryFrom<u8> for Operator {
     type Error = NoOperator;
 
@@ -83,7 +84,8 @@ impl TryFrom<u8> for Operator {
     }
 }
 
-/// The operator's answer of two bits. It takes the number, whose bits are the answers: a name would ask more of callers.
+/// The operator's answer of two bits. It takes the number, whose bits are the answers.
+// The number, and no `Operator`: the clause holds of every number, and a narrower argument would ask more of callers.
 pub fn answer(operator: u8, left: bool, right: bool) -> bool
     ensures { result ≡ answer operator left right }
 {

@@ -1,3 +1,4 @@
 pub mod Equal
 pub mod Bags
 pub mod Ranks
+pub mod Deriving

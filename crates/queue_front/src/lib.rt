@@ -36,7 +36,11 @@ fn ordered<K: Ord + Copy, V: Copy>(
     ensures front { result.0 ≡ (if is_lt (K.cmp other.key there.key) then other else there) }
     ensures behind { result.1 ≡ (if is_lt (K.cmp other.key there.key) then there else other) }
 {
-    (there.min(other), there.max(other))
+    if other < there {
+        (other, there)
+    } else {
+        (there, other)
+    }
 }
 
 impl<K: Ord + Copy, V: Copy, Q: Queue<K, V>> Queue<K, V> for FrontSlot<K, V, Q> {

@@ -22,6 +22,7 @@ pub enum LoadFault {
     Space,
 }
 
+// Written out: a derive gives `From` no contract.
 impl From<Break> for LoadFault {
     ghost from_gives = { λ x y. y ≡ OfRule x };
 

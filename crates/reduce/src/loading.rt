@@ -12,7 +12,7 @@ use crate::faults::LoadFault;
 use crate::reduce_rows::normalize;
 use listing::{Record, Stored};
 use rows::checking::check_rules;
-use rows::row::{Row, ZERO};
+use rows::row::Row;
 use source::Source;
 
 /// The most records that a source may have to be loaded.
@@ -42,6 +42,7 @@ fn copy_out(rows: &[Row], records: &mut [Record]) -> Result<(), LoadFault>
     if rows.len() > records.len() {
         return Err(LoadFault::Space);
     }
+    // By places: of what is written through `iter_mut` in a `zip` the library tells nothing.
     for (place, row) in rows.iter().enumerate() {
         records[place] = Record::from(*row);
     }
@@ -68,7 +69,7 @@ fn load_rows<S: Source>(
 /// space, with the rows as work space. Faults, in this order: another n; over 65,535 records; no row for a record; a
 /// rule broken; no room for the normal records. The first three touch nothing. After every other outcome the rows
 /// taken, one a record, are zeros, and the other rows are as they were; a fault changes no record.
-// Two spaces, and no struct of both: they may be lent by different owners.
+// Two spaces, and no struct of both: a caller would make it for this one call.
 pub fn load<S: Source>(
     n: u16,
     source: &S,
@@ -91,6 +92,6 @@ pub fn load<S: Source>(
     }
     let taken = &mut rows[..count];
     let loaded = load_rows(source, taken, records);
-    taken.fill(ZERO);
+    taken.fill(Row::default());
     loaded
 }

@@ -1,5 +1,6 @@
 // Reduction of rows whose arcs name places, from the deepest level up; the first of their kind come to the front.
-// It is for the crates above, which prove that their rows are numbered by their places.
+// It is for the crates above, which prove that their rows are numbered by their places. That rows are few, so that places are
+// numbers, is asked of each function: a struct that says so would be taken apart wherever a part of the rows is passed on.
 
 ghost use Rattle.std.specs.Prelude.{◌≡◌, ℕ, ◌^◌, ◌<◌, ◌≤◌, map, length, take};
 ghost use Rattle.listing.specs.declared.Target.{Target};

@@ -33,6 +33,7 @@ fn unbroken(rule: Rule, place: Option<usize>) -> Result<(), Break>
 }
 
 // One function a rule: each ensures another fact, and with all of them in one body two of its exits did not prove.
+// That rows are few, and hold records alone, is asked of each: see `places`.
 
 // The first rule, of the root.
 fn try_root(root: Target, rows: &[Row]) -> Result<(), Break>

@@ -13,6 +13,7 @@ pub fn fill<S: Source>(source: &S, rows: &mut [Row])
     ensures records { map entry_of rows.new ≡ S.listed source.now }
     ensures held { map row_of (map entry_of rows.new) ≡ rows.new }
 {
+    // By places: of what is written through `iter_mut` in a `zip` the library tells nothing.
     for (place, r) in each_record(source).enumerate() {
         rows[place] = Row::from(r);
     }

@@ -11,7 +11,7 @@ ghost use Rattle.rows.specs.Placing.{placing, placed_arcs, placed_row, AtPlace, 
 use crate::row::Row;
 use listing::{Record, Target};
 
-// The place of a node's row.
+// The place of a node's row. By level and number, and no target: for a terminal nothing of the kind holds.
 fn find(rows: &[Row], level: u16, number: u32) -> Option<usize>
     requires { Numbered (map entry_of rows.now) }
     ensures { MatchOption result (Within (map entry_of rows.now) (Node level number) → ⊥) (AtPlace (map entry_of rows.now) (Node level number)) }
@@ -20,7 +20,8 @@ fn find(rows: &[Row], level: u16, number: u32) -> Option<usize>
         .ok()
 }
 
-// That rows are in order, and few, is asked of each: a struct that says so would have to borrow the rows that are written.
+// That rows are few, in order, and hold records alone is asked of each: a struct that says so would have to borrow the rows that
+// are written, and be taken apart wherever a part of them is passed on.
 
 // A target with its place for its number, absent where it is neither a terminal nor a node of the rows above the level.
 fn placed(rows: &[Row], level: u16, t: Target) -> Option<Target>

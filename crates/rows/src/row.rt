@@ -4,11 +4,11 @@ ghost use Rattle.rows.specs.Rows.{entry_of, row_of};
 use listing::{Record, Target};
 
 /// A work row: a record in the making, its arcs, and what the passes over a level note of it.
-/// Rows are equal, and ordered, by their arcs alone: by low, then by high.
+/// Rows are equal, and ordered, by their arcs alone: by low, then by high. The default is the row of zeros.
 // Arcs may name rows by their places: rows lie in the caller's slice, and the library has no heap.
 // While a level is settled: all fields but `image` belong to the row that stands here after the sort;
 // `image` belongs to the row that stood here at entry.
-#[derive(Clone, Copy)]
+#[derive(Clone, Copy, Default)]
 #[derive_where(PartialEq, Eq, PartialOrd, Ord)]
 pub struct Row {
     pub low: Target,
@@ -25,18 +25,6 @@ pub struct Row {
     pub image: Target,
 }
 
-/// The row of zeros.
-// A constant, which no `default()` is plainer than: arrays of rows and struct updates are written with it.
-pub const ZERO: Row = Row {
-    low: Target::False,
-    high: Target::False,
-    level: 0,
-    number: 0,
-    own: 0,
-    first: false,
-    image: Target::False,
-};
-
 impl From<Record> for Row {
     ghost from_gives = { λ r row. row ≡ row_of r };
 
@@ -47,7 +35,7 @@ impl From<Record> for Row {
             high: r.high,
             level: r.level,
             number: r.number,
-            ..ZERO
+            ..Row::default()
         }
     }
 }

@@ -2,13 +2,13 @@
 
 use listing::{Record, Target};
 use normalizing::texts::{MOST_BYTES, MOST_RECORDS, normal_bytes};
-use rows::row::ZERO;
+use rows::row::Row;
 use source::records::Records;
 use text_writing::writing::write;
 
 // Whether the bytes that come out for an input are those wanted.
 fn gives(input: &[u8], wanted: &[u8]) -> bool {
-    let mut rows = [ZERO; MOST_RECORDS];
+    let mut rows = [Row::default(); MOST_RECORDS];
     let mut records = [Record::default(); MOST_RECORDS];
     let mut output = [0u8; MOST_BYTES];
     match normal_bytes(input, &mut rows, &mut records, &mut output) {

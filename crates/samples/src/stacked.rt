@@ -13,10 +13,10 @@ fn a_stack_of_queues_keeps_order(rt: HostRuntime) {
     assert!(rt; queue.put(3, 2).is_ok());
     assert!(rt; queue.put(9, 3).is_ok());
     assert!(rt; queue.put(3, 4).is_ok());
-    match queue.put(5, 5) {
-        Ok(()) => assert!(rt; false),
-        Err(refused) => assert!(rt; refused.element.key == 5 && refused.element.carried == 5),
-    }
+    let Err(refused) = queue.put(5, 5) else {
+        panic!(rt; "the queue is full");
+    };
+    assert!(rt; refused.element.key == 5 && refused.element.carried == 5);
     assert!(rt; key_of(queue.take()) == Some(3));
     assert!(rt; key_of(queue.look()) == Some(3));
     assert!(rt; key_of(queue.take()) == Some(3));

@@ -24,6 +24,7 @@ pub enum RunFault {
     Full(Refused<PairKey, Request>),
 }
 
+// Written out: a derive gives `From` no contract.
 impl From<Refused<PairKey, Request>> for RunFault {
     ghost from_gives = { λ x y. y ≡ OfFull x };
 

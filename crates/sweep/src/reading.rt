@@ -41,11 +41,7 @@ pub fn fixed_start<S: Source>(source: &S, fixed: Option<Fixed>) -> usize
     ensures fixes { Fixes (S.listed source.now) fixed result }
     ensures few { length (S.listed source.now) < 2 ^ 64 }
 {
-    let level = match fixed {
-        Some(fact) => fact.level,
-        None => 0,
-    };
-    level_start(source, 0, level)
+    level_start(source, 0, fixed.map_or(0, |fact| fact.level))
 }
 
 // Whether a target is a node on a level.

@@ -10,7 +10,7 @@ use listing::Target;
 use pairs::Pair;
 use pairs::keys::PairKey;
 use queue::Queue;
-use rows::row::{Row, ZERO};
+use rows::row::Row;
 
 /// A row's child: an open pair, or a closed pair's answer.
 #[derive(Clone, Copy)]
@@ -53,15 +53,14 @@ impl Child {
 fn put_arc<Q: Queue<PairKey, Request>>(
     queue: &mut Q,
     n: u16,
-    row: u32,
-    high: bool,
+    request: Request,
     child: Child,
 ) -> Result<(), RunFault>
     ensures room { Q.Queue.room queue.new ≡ Q.Queue.room queue.old }
-    ensures put { PutArc (Q.Queue.room queue.old) n row high child (Q.Queue.waiting queue.old) (Q.Queue.waiting queue.new) result }
+    ensures put { PutArc (Q.Queue.room queue.old) n request.row request.high child (Q.Queue.waiting queue.old) (Q.Queue.waiting queue.new) result }
 {
     if let Child::Open(pair) = child {
-        queue.put(pair.key(n), Request { row, high })?;
+        queue.put(pair.key(n), request)?;
     }
     Ok(())
 }
@@ -76,8 +75,8 @@ pub fn put_arcs<Q: Queue<PairKey, Request>>(
     ensures room { Q.Queue.room queue.new ≡ Q.Queue.room queue.old }
     ensures put { PutArcs (Q.Queue.room queue.old) n row children.low children.high (Q.Queue.waiting queue.old) (Q.Queue.waiting queue.new) result }
 {
-    put_arc(queue, n, row, false, children.low)?;
-    put_arc(queue, n, row, true, children.high)
+    put_arc(queue, n, Request { row, high: false }, children.low)?;
+    put_arc(queue, n, Request { row, high: true }, children.high)
 }
 
 /// A row as it is opened: its level, and its arcs until they are pointed at rows.
@@ -90,7 +89,7 @@ pub fn drafted(level: u16, children: Children) -> Row
         low: children.low.draft(),
         high: children.high.draft(),
         level,
-        ..ZERO
+        ..Row::default()
     }
 }
 

@@ -46,6 +46,7 @@ fn check_line(bytes: &[u8], line: u32, columns: u32) -> Result<(), TextFault>
     ensures { Finds (at_line (line_fault columns 0 bytes.now) line None) result }
 {
     let mut rest = bytes;
+    // By number: a column's number gives its width, and is told where it is malformed.
     for k in 0..columns {
         let (column, behind) = rest.split_at(width_of(k));
         number_in(column).ok_or(TextFault::Column {
@@ -109,7 +110,7 @@ fn target_of(n: u16, level: u16, number: u32) -> Target
     }
 }
 
-// The record on a line.
+// The record on a line. Its columns are cut where they stand: a function of two of them would have to tell where that is.
 fn record_of(n: u16, line: &[u8; LINE]) -> Record
     ensures { result ≡ record_of n line.now }
 {
