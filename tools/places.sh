@@ -17,7 +17,7 @@ find_lines() { # point, what, pattern
 find_lines 1a 'numbers for kinds, and functions that answer such numbers' 'pub const [A-Z_]+: u(8|16|32) =|fn (number|words|outcome)\b'
 find_lines 1b 'fields that are a flag' '^ +(pub )?[a-z_]+: bool,$|^ +[A-Z][A-Za-z]+\(bool\)'
 find_lines 1c 'an Option that holds a refusal, or a refusal told by numbers' '-> Option<(TextFault|Break)>|(fault|break|unaimed_place)\b.*-> Option<|-> Result<[A-Za-z]+, Report>'
-find_lines 1d 'a value that stands for none' 'None => 0,|None => return 0|Ok\(_\) => Report'
+find_lines 1d 'a value that stands for none' 'None => 0,|None => return 0|Ok\(_\) => Report|(unwrap|map)_or\(0'
 find_lines 3a 'loops over numbers' '^ *for .* in .*\.\.'
 find_lines 3b 'loops that are no for' '^ *(while |loop \{)'
 find_lines 4a 'comparisons written by hand' '^impl.* (PartialEq|Eq|PartialOrd|Ord) for'

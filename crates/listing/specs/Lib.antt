@@ -5,3 +5,4 @@ pub mod Meaning
 pub mod Tests
 pub mod Samples
 pub mod Ranks
+pub mod Words

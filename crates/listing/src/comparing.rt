@@ -16,7 +16,7 @@ pub fn same_records(left: &[Record], right: &[Record]) -> bool
 /// that is so exactly when their values agree at all 2 ^ n settings; and a normal listing has no more
 /// records than any listing by the rules that agrees with it. Whether a listing keeps the rules, and whether it is
 /// normal, is told by tests that compute.
-// A root and records, and no struct of both: makers hold the two apart, and a listing's n besides.
+// Roots and records, and no struct of both: a listing has n besides, which is not compared.
 pub fn same_listing(
     left_root: Target,
     left: &[Record],

@@ -4,9 +4,10 @@
 
 #![tactic(auto)]
 
-ghost use Rattle.std.specs.Prelude.{◌≡◌, Decides};
+ghost use Rattle.std.specs.Prelude.{◌≡◌, Decides, Some};
 ghost use Rattle.listing.specs.Listing.{node, names, child, is_true, depth, terminal, Before, Rises, RecordBefore};
 ghost use Rattle.listing.specs.Meaning.{ToldApart};
+ghost use Rattle.listing.specs.Words.{words};
 
 pub mod comparing;
 pub mod reports;
@@ -37,7 +38,7 @@ pub struct Record {
 }
 
 /// A listing that stands in the first places of some space: its root, and how many records it has.
-// A count beside a space, since the space is the caller's: the library has no heap.
+// A count, and not the part of the space that is filled, which would keep the space lent.
 #[derive(Clone, Copy)]
 pub struct Stored {
     pub root: Target,
@@ -96,6 +97,9 @@ impl From<bool> for Target {
 }
 
 impl fmt::Display for Target {
+    ghost output = { λ t. Some (words t) };
+
+    /// A node by its level and number, or a terminal's name.
     fn fmt<W: fmt::Write>(&self, f: &mut fmt::Formatter<W>) -> fmt::Result {
         match self {
             Target::Node { level, number } => write!(f, "level {level}, number {number}"),

@@ -58,14 +58,12 @@ impl From<NormalFault> for Report {
         match fault {
             NormalFault::Input => Report {
                 number: 19,
-                place: 0,
-                detail: 0,
+                ..Report::default()
             },
             NormalFault::Text(below) => Report::from(below),
             NormalFault::Facts => Report {
                 number: 1,
-                place: 0,
-                detail: 0,
+                ..Report::default()
             },
             NormalFault::Load(below) => Report::from(below),
             NormalFault::Write(below) => Report::from(below),

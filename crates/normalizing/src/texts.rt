@@ -27,8 +27,8 @@ pub const MOST_BYTES: usize = HEADER + LINE * MOST_RECORDS;
 /// its length. Faults, in this order: an input over 15,986 bytes; opening's; n outside 1 to 512; loading's; an
 /// output too short. A fault leaves the output as it was. The rows and the records are work space, one of each for a
 /// record of the input.
-// Four spaces of the caller's, one by one, and the length in the answer: the library has no heap, and a struct of them would
-// be made for this one call.
+// Spaces one by one: a struct of them would be made for one call. It answers the length, and not the part that is filled, which
+// would keep the output lent; so does `normal_bytes`.
 pub fn normal_text(
     input: &[u8],
     rows: &mut [Row],

@@ -73,7 +73,8 @@ impl<'a, K: Ord + Copy, V: Copy, A: Arrangement<K, V>> Arranged<'a, K, V, A> {
     }
 }
 
-// The next two work on the slice and its length, and not on the queue: its order is broken in between.
+// The next two work on the slice and its length, and not on the queue, whose order is broken in between, nor on a part cut at the call:
+// of a part of a slice behind a field a proof knows the length alone.
 
 // Puts an element behind the first `held`, which are in order, and brings it to its place among them.
 fn join<K: Ord + Copy, V: Copy, A: Arrangement<K, V>>(

@@ -39,18 +39,16 @@ impl From<LoadFault> for Report {
         match fault {
             LoadFault::Facts => Report {
                 number: 10,
-                place: 0,
-                detail: 0,
+                ..Report::default()
             },
             LoadFault::Records => Report {
                 number: 11,
-                place: 0,
-                detail: 0,
+                ..Report::default()
             },
             LoadFault::Row { number } => Report {
                 number: 13,
                 place: number,
-                detail: 0,
+                ..Report::default()
             },
             LoadFault::Rule(b) => Report {
                 number: 12,
@@ -59,8 +57,7 @@ impl From<LoadFault> for Report {
             },
             LoadFault::Space => Report {
                 number: 15,
-                place: 0,
-                detail: 0,
+                ..Report::default()
             },
         }
     }

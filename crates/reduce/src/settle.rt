@@ -27,7 +27,7 @@ pub fn map_level(rows: &mut [Row], a: usize, b: usize)
     requires inside { AllInside (length rows.old) (part a b rows.old) }
     ensures { rows.new ≡ mapped_level a b rows.old }
 {
-    // By index: each row reads the images of other rows of the same slice.
+    // By index: each row reads images of rows behind the level. With these split off, each place that an arc names would be less by b.
     for k in a..b {
         let r = rows[k];
         let low = image_at(rows, r.low);

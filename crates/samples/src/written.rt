@@ -1,17 +1,12 @@
 // Writing texts: the bytes of a listing, the room that it takes, and that it opens again.
 
-use listing::reports::Report;
 use listing::samples::exclusive_or;
 use listing::{Record, Target};
 use source::Source;
 use source::records::Records;
 use text::opening::Text;
+use text_writing::faults::WriteFault;
 use text_writing::writing::write;
-
-// The length that writing tells, or the number of the fault that it ends in.
-fn outcome(source: &Records<'_>, buffer: &mut [u8]) -> Result<usize, u32> {
-    write(source, buffer).map_err(|fault| Report::from(fault).number)
-}
 
 // A listing over three facts whose root is the node of its first record.
 fn over_three_facts(records: &[Record]) -> Records<'_> {
@@ -30,7 +25,7 @@ fn a_listing_is_written(rt: HostRuntime) {
     let records = exclusive_or();
     let source = over_three_facts(&records);
     let mut buffer = [b'x'; 116];
-    assert!(rt; outcome(&source, &mut buffer) == Ok(114));
+    assert!(rt; write(&source, &mut buffer) == Ok(114));
     assert!(rt;
         buffer
             == *b"   3     3   0     0\n   0     0   1     0   1     1\n   1     0   3     0   3     1\n   1     1   3     1   3     0\nxx"
@@ -42,7 +37,7 @@ fn a_short_buffer_is_left_alone(rt: HostRuntime) {
     let records = exclusive_or();
     let source = over_three_facts(&records);
     let mut buffer = [b'x'; 113];
-    assert!(rt; outcome(&source, &mut buffer) == Err(18));
+    assert!(rt; write(&source, &mut buffer) == Err(WriteFault::Short));
     assert!(rt; buffer == [b'x'; 113]);
 }
 
@@ -54,7 +49,7 @@ fn columns_are_filled(rt: HostRuntime) {
         records: &[],
     };
     let mut buffer = [b'x'; 21];
-    assert!(rt; outcome(&source, &mut buffer) == Ok(21));
+    assert!(rt; write(&source, &mut buffer) == Ok(21));
     assert!(rt; buffer == *b"9999     09999     1\n");
 }
 
@@ -63,7 +58,7 @@ fn what_is_written_opens_again(rt: HostRuntime) {
     let records = exclusive_or();
     let source = over_three_facts(&records);
     let mut buffer = [0; 114];
-    assert!(rt; outcome(&source, &mut buffer) == Ok(114));
+    assert!(rt; write(&source, &mut buffer) == Ok(114));
     let Ok(text) = Text::open(&buffer) else {
         panic!(rt; "what is written opens");
     };

@@ -42,12 +42,12 @@ impl From<RunFault> for Report {
             RunFault::Row { number } => Report {
                 number: 13,
                 place: number,
-                detail: 0,
+                ..Report::default()
             },
             RunFault::Full(refused) => Report {
                 number: 14,
                 place: refused.element.carried.row,
-                detail: 0,
+                ..Report::default()
             },
         }
     }

@@ -28,7 +28,8 @@ pub struct Cursor {
     pub right: usize,
 }
 
-// What each asks of the sides is no ghost field of theirs: a listing by the rules can be shown in more than one way.
+// What each asks of the sides is no ghost field of theirs: there it would stand truncated, since a listing by the rules can be shown
+// in more than one way, and the run needs what it says.
 impl<'a, L: Source, R: Source> Operands<'a, L, R> {
     /// The root pair; `left` and `right` are the sides' roots.
     pub fn start(&self) -> Pair

@@ -41,6 +41,7 @@ pub fn fixed_start<S: Source>(source: &S, fixed: Option<Fixed>) -> usize
     ensures fixes { Fixes (S.listed source.now) fixed result }
     ensures few { length (S.listed source.now) < 2 ^ 64 }
 {
+    // Where no fact is fixed any place will do.
     level_start(source, 0, fixed.map_or(0, |fact| fact.level))
 }
 

@@ -44,7 +44,7 @@ pub fn number_in(column: &[u8]) -> Option<u32>
     }
 }
 
-// The number in a column, or 0 where it is malformed.
+// The number in a column, or 0 where it is malformed: what a text says is told of all bytes, and its first fault apart.
 pub fn value_in(column: &[u8]) -> u32
     requires narrow { length column.now ≤ 9 }
     ensures value { result ≡ unwrap_or (numeral column.now) 0 }

@@ -24,8 +24,7 @@ impl From<TextFault> for Report {
         match fault {
             TextFault::Length => Report {
                 number: 3,
-                place: 0,
-                detail: 0,
+                ..Report::default()
             },
             TextFault::Column { line, column } => Report {
                 number: 4,

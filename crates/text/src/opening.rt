@@ -110,7 +110,8 @@ fn target_of(n: u16, level: u16, number: u32) -> Target
     }
 }
 
-// The record on a line. Its columns are cut where they stand: a function of two of them would have to tell where that is.
+// The record on a line. Columns are cut where they stand: a function of a target's two was tried, and what it says of its part
+// then takes lemmas to say of the line.
 fn record_of(n: u16, line: &[u8; LINE]) -> Record
     ensures { result ≡ record_of n line.now }
 {

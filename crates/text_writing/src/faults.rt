@@ -20,8 +20,7 @@ impl From<WriteFault> for Report {
         match fault {
             WriteFault::Short => Report {
                 number: 18,
-                place: 0,
-                detail: 0,
+                ..Report::default()
             },
         }
     }

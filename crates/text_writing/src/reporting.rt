@@ -32,7 +32,7 @@ fn put_report(out: &mut [u8], report: Report)
 
 /// Writes a fault's line to the buffer's front, and tells its length, 19; the bytes behind it stay as they are. Where
 /// the buffer is shorter, it says so and writes nothing.
-// It answers the length: the buffer is the caller's, as the library has no heap.
+// It answers the length, and not the part that is filled, which would keep the buffer lent.
 pub fn write_report(report: Report, buffer: &mut [u8]) -> Result<usize, WriteFault>
     ensures { MatchResult result (λ len. Reported report buffer.old buffer.new len) (λ _. (length buffer.old < 19) × (buffer.new ≡ buffer.old)) }
 {

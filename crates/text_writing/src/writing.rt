@@ -137,7 +137,7 @@ fn text_len(count: usize, room: usize) -> Option<usize>
 /// it stay as they are. Where the buffer is shorter, it says so and writes nothing. Whatever listing by the rules the
 /// source tells, with at most 9,999 facts and 999,999 records, opening the text tells it again. One pass over the
 /// records and the bytes.
-// It answers the length: the buffer is the caller's, as the library has no heap.
+// It answers the length, and not the part that is filled, which would keep the buffer lent.
 pub fn write<S: Source>(source: &S, buffer: &mut [u8]) -> Result<usize, WriteFault>
     ensures wrote { MatchResult result (λ len. Wrote (S.facts source.now) (S.top source.now) (S.listed source.now) buffer.old buffer.new len) (λ _. (length buffer.old < 21 + 31 * length (S.listed source.now)) × (buffer.new ≡ buffer.old)) }
     ensures again { IfOk result (λ len. OpensAgain (S.facts source.now) (S.top source.now) (S.listed source.now) (take len buffer.new)) }
