@@ -85,10 +85,6 @@ given_below k (r ∷ rs) x (inr m) = omega (arith, given_below (k + 1) rs x m)
 abbrev pub look : List Row → ℕ → Target
 look rows p = (get_or rows p no_row).image
 
-write_length : (rows ts : List Row) → length (write_back rows ts) ≡ length rows
-write_length rows [] = refl
-write_length rows (t ∷ ts) = write_length (put_image rows t.own (outcome t)) ts ∙ length-set rows t.own (imaged (get_or rows t.own no_row) (outcome t))
-
 put_same : (rows : List Row) (p : ℕ) (t : Target) → p < length rows → look (put_image rows p t) p ≡ t
 put_same rows p t h = ap (λ (r : Row). r.image) (get_or-set_same rows p (imaged (get_or rows p no_row) t) no_row h)
 

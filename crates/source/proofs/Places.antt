@@ -13,18 +13,6 @@ nth_map f (x ∷ xs) (suc i) = nth_map f xs i
 pub nth_map_at : {X Y : Type 0} (f : X → Y) (xs : List X) (i : ℕ) (o : Option X) → o ≡ slice_get xs i → option_map f o ≡ slice_get (map f xs) i
 nth_map_at f xs i o e = ap (option_map f) e ∙ sym (nth_map f xs i)
 
-pub drop_nth : {X : Type 0} (xs : List X) (i : ℕ) (x : X) → Some x ≡ slice_get xs i → drop i xs ≡ x ∷ drop (i + 1) xs
-drop_nth [] i x e = let z : ◌≡◌ {A = ℕ} 0 1 = cc in absurd (omega arith)
-drop_nth (y ∷ ys) zero x e = let d : y ≡ x = cc in ap (λ z. z ∷ ys) d
-drop_nth (y ∷ ys) (suc i) x e =
-    let j : suc i + 1 ≡ suc (i + 1) = omega arith in
-    rw j (drop_nth ys i x e)
-
-pub nth_within : {X : Type 0} (xs : List X) (i : ℕ) → i < length xs → None ≡ slice_get xs i → ⊥
-nth_within [] i h e = omega arith
-nth_within (x ∷ xs) zero h e = let z : ◌≡◌ {A = ℕ} 0 1 = cc in omega arith
-nth_within (x ∷ xs) (suc i) h e = nth_within xs i (omega arith) e
-
 -- what a slice's `get` finds, copied out
 pub get_nth : {X : Type 0} (xs : List X) (i : ℕ) (r : Option (Bor X)) → IsGetResult xs i i r → option_map (λ x. x.now) r ≡ slice_get xs i
 get_nth xs i None h = sym (slice_get_past xs i h.3)

@@ -1,5 +1,5 @@
 -- Bags: lists with the same elements, each as often.
-use Rattle.std.proofs.Common.{◌≡◌, ℕ, zero, suc, ◌+◌, ◌<◌, ◌≤◌, Bool, true, false, cond, ◌⊎◌, List, [], ◌∷◌, ◌++◌, map, length, get_or, sum_by as sumBy, filter as kept_by, sym, refl, ap, ◌∙◌, ap₂, inl, inr, ⊎_elim, arith}
+use Rattle.std.proofs.Common.{◌≡◌, ℕ, zero, suc, ◌+◌, ◌<◌, Bool, true, false, cond, ◌⊎◌, List, [], ◌∷◌, ◌++◌, map, length, get_or, sum_by as sumBy, filter as kept_by, sym, refl, ap, ◌∙◌, ap₂, inl, inr, ⊎_elim, arith}
 use mathlib.Core.Path.{subst⁻¹}
 use Rattle.std.specs.List.Sorted.{IsPermutation}
 use Rattle.std.proofs.lemmas.List.Sorted.{IsPermutation-sym, sum_by-IsPermutation}
@@ -110,7 +110,3 @@ kept_map t f (x ∷ xs) = by (kept_map t f xs) (cases_Bool (t (f x)))
     by : kept_by t (map f xs) ≡ map f (kept_by (λ x. t (f x)) xs) → (t (f x) ≡ true) ⊎ (t (f x) ≡ false) → kept_by t (map f (x ∷ xs)) ≡ map f (kept_by (λ x. t (f x)) (x ∷ xs))
     by ih (inl e) = cond-true _ _ _ e ∙ ap (λ l. f x ∷ l) ih ∙ ap (map f) (sym (cond-true _ _ _ e))
     by ih (inr e) = cond-false _ _ _ e ∙ ih ∙ ap (map f) (sym (cond-false _ _ _ e))
-
--- a bound on one room is one on an equal room
-pub same_room : (n m x y : ℕ) → n ≡ m → (x ≤ n → y ≤ n) → x ≤ m → y ≤ m
-same_room n m x y e h k = let j = h (omega arith) in omega arith

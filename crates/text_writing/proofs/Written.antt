@@ -5,8 +5,7 @@ use Rattle.std.specs.List.{flat_map}
 use Rattle.std.proofs.lemmas.List.{drop-set, drop_all, drop-drop, drop_at, take_at, set_split, length-take-le, length_push, flat_map_more, take_more, take_all, get_or-drop}
 use Rattle.listing.specs.declared.Target.{Target}
 use Rattle.listing.specs.declared.Record.{Record}
-use Rattle.listing.specs.Listing.{depth}
-use Rattle.text_writing.specs.Writing.{lead, leading, padded, pair, number_of, aim, header, columns, line, written}
+use Rattle.text_writing.specs.Writing.{lead, leading, padded, pair, header, columns, line, written}
 
 -- the last digit is written
 pub last_digit : (xs : List ℕ) (last v : ℕ) → length xs ≡ last + 1 → padded (last + 1) v ≡ leading last (v / 10) ++ drop last (set xs last (48 + v % 10))
@@ -42,9 +41,6 @@ length_padded (suc w) v = length_push (leading w (v / 10)) (48 + v % 10) ∙ ap 
 pub length_pair : (a b : ℕ) → length (pair a b) ≡ 10
 unfolding pair
 length_pair a b = length-append (padded 4 a) (padded 6 b) ∙ ap₂ ◌+◌ (length_padded 4 a) (length_padded 6 b)
-
-pub length_aim : (n : ℕ) (t : Target) → length (aim n t) ≡ 10
-length_aim n t = length_pair (depth n t) (number_of t)
 
 pub length_header : (n m : ℕ) (t : Target) → length (header n m t) ≡ 21
 unfolding header
