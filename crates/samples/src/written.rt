@@ -1,11 +1,11 @@
 // Writing texts: the bytes of a listing, the room that it takes, and that it opens again.
 
+use listing::reports::Report;
 use listing::samples::exclusive_or;
 use listing::{Record, Target};
 use source::Source;
 use source::records::Records;
 use text::opening::Text;
-use text_writing::faults::WriteFault;
 use text_writing::writing::write;
 
 // A listing over three facts whose root is the node of its first record.
@@ -37,7 +37,10 @@ fn a_short_buffer_is_left_alone(rt: HostRuntime) {
     let records = exclusive_or();
     let source = over_three_facts(&records);
     let mut buffer = [b'x'; 113];
-    assert!(rt; write(&source, &mut buffer) == Err(WriteFault::Short));
+    let Err(fault) = write(&source, &mut buffer) else {
+        panic!(rt; "the buffer is short");
+    };
+    assert!(rt; Report::from(fault).number == 18);
     assert!(rt; buffer == [b'x'; 113]);
 }
 
