@@ -4,7 +4,7 @@
 
 ghost use Rattle.std.specs.Prelude.{◌≡◌, ◌+◌, ◌-◌, ◌<◌, ◌≤◌, List, [], ◌∷◌, length, take, Option};
 ghost use Rattle.std.specs.List.Sorted.{IsPermutation};
-ghost use Rattle.queue.specs.Waiting.{Least, Taken};
+ghost use Rattle.queue.specs.Waiting.{element, Least, Taken};
 ghost use Rattle.queue.specs.Fits.{held_fits};
 ghost use Rattle.queue.specs.declared.Element.{Element};
 
@@ -22,12 +22,13 @@ pub trait Arrangement<K: Ord + Copy, V: Copy> {
     /// The next of elements in order.
     ghost next: { List (Element K V) → Option (Element K V) };
 
-    /// Brings the last element to its place among the others, which are in order.
-    fn insert(elements: &mut [Element<K, V>])
+    /// Puts an element among the others, which are in order; the last place is free.
+    // It is handed over, and not written there first: what was just written would be read back.
+    fn insert(elements: &mut [Element<K, V>], key: K, carried: V)
         requires some { 0 < length elements.old }
         requires ordered { ordered (take (length elements.old - 1) elements.old) }
         ensures ordered { ordered elements.new }
-        ensures same { IsPermutation elements.old elements.new };
+        ensures joins { IsPermutation (element key carried ∷ take (length elements.old - 1) elements.old) elements.new };
 
     /// Shows the next of elements in order.
     fn first(elements: &[Element<K, V>]) -> Option<Element<K, V>>
@@ -76,19 +77,19 @@ impl<'a, K: Ord + Copy, V: Copy, A: Arrangement<K, V>> Arranged<'a, K, V, A> {
 // The next two work on the slice and its length, and not on the queue, whose order is broken in between, nor on a part cut at the call:
 // of a part of a slice behind a field a proof knows the length alone.
 
-// Puts an element behind the first `held`, which are in order, and brings it to its place among them.
+// Puts an element among the first `held`, which are in order; one slot more is in order then.
 fn join<K: Ord + Copy, V: Copy, A: Arrangement<K, V>>(
     slots: &mut [Element<K, V>],
     held: usize,
-    element: Element<K, V>,
+    key: K,
+    carried: V,
 )
     requires free { held < length slots.old }
     requires ordered { A.ordered (take held slots.old) }
     ensures ordered { A.ordered (take (held + 1) slots.new) }
-    ensures joins { IsPermutation (element ∷ take held slots.old) (take (held + 1) slots.new) }
+    ensures joins { IsPermutation (element key carried ∷ take held slots.old) (take (held + 1) slots.new) }
 {
-    slots[held] = element;
-    A::insert(&mut slots[..=held]);
+    A::insert(&mut slots[..=held], key, carried);
 }
 
 // Takes the next out of the first `held`, which are in order; one slot fewer is in order then.
@@ -116,12 +117,13 @@ impl<'a, K: Ord + Copy, V: Copy, A: Arrangement<K, V>> Queue<K, V> for Arranged<
 
     /// Costs what the arrangement's `insert` costs.
     fn put(&mut self, key: K, carried: V) -> Result<(), Refused<K, V>> {
-        let element = Element { key, carried };
         if self.held == self.slots.len() {
-            return Err(Refused { element });
+            return Err(Refused {
+                element: Element { key, carried },
+            });
         }
         let held = self.held;
-        join::<K, V, A>(self.slots, held, element);
+        join::<K, V, A>(self.slots, held, key, carried);
         self.held = held + 1;
         Ok(())
     }
@@ -134,9 +136,9 @@ impl<'a, K: Ord + Copy, V: Copy, A: Arrangement<K, V>> Queue<K, V> for Arranged<
     /// Costs what the arrangement's `remove` costs.
     fn take(&mut self) -> Option<Element<K, V>> {
         let held = self.held;
-        let next = part::<K, V, A>(self.slots, held)?;
-        self.held = held - 1;
-        Some(next)
+        let next = part::<K, V, A>(self.slots, held);
+        self.held = held.saturating_sub(1);
+        next
     }
 
     /// Costs O(1).

@@ -1,6 +1,6 @@
 -- From the places that break a rule to the rule, and back.
-use Rattle.std.proofs.Common.{◌≡◌, ℕ, zero, suc, ◌+◌, ◌-◌, ◌<◌, ◌≤◌, Bool, eqb, List, [], ◌∷◌, map, length, get_or, Some, None, Option, Ok, Err, Result, Decides, MatchOption, MatchResult, sym, refl, ap, ◌∙◌, subst, inl, inr, ⊎_elim, ◌≢◌, arith}
-use Rattle.std.specs.List.{slice_get, AllWithin, HoldsAt}
+use Rattle.std.proofs.Common.{◌≡◌, ℕ, zero, suc, ◌+◌, ◌-◌, ◌<◌, ◌≤◌, Bool, eqb, List, [], ◌∷◌, ◌++◌, map, length, get_or, Some, None, Option, Ok, Err, Result, Decides, MatchOption, MatchResult, sym, refl, ap, ◌∙◌, subst, inl, inr, ⊎_elim, ◌≢◌, arith}
+use Rattle.std.specs.List.{slice_get}
 use Rattle.std.specs.Option.{option_map}
 use Rattle.std.proofs.lemmas.Bool.{cases_Bool, both_ways}
 use Rattle.std.proofs.lemmas.List.{length-map}
@@ -44,17 +44,25 @@ row_at rows k r e =
     (b, cc)
 
 -- R2
-pub level_first : (n : ℕ) (rows : List Row) (o : Option ℕ) →
-    MatchOption o (AllWithin (λ (r : Row). r.level < n) rows 0 (length rows)) (λ i. (i < length rows) × HoldsAt (λ (r : Row). n ≤ r.level) rows i × AllWithin (λ (r : Row). r.level < n) rows 0 i) →
-    MatchOption o (Levelled n (map entry_of rows)) (First (TooHigh n (map entry_of rows)))
-level_first n rows None h = λ r m.
-    let w = in_nth r (map entry_of rows) m in
-    let x = row_at rows w.0 r w.1 in
-    omega (arith, h w.0 no_row (omega arith) x.0, ap (λ (q : Record). q.level) x.1)
-level_first n rows (Some p) h = (
-  (entry_of (get_or rows p no_row), record_at rows p no_row h.0, h.1 no_row),
-  (λ k l w. let x = row_at rows k w.0 w.1 in omega (arith, h.2 k no_row (omega arith) l, w.2, ap (λ (q : Record). q.level) x.1)),
-)
+-- records of which each is on a level below n
+pub levelled_more : (n : ℕ) (rs : List Record) (r : Record) → Levelled n rs → r.level < n → Levelled n (rs ++ r ∷ [])
+levelled_more n [] r h l q (inl e) = subst (λ (x : Record). x.level < n) (sym e) l
+levelled_more n [] r h l q (inr m) = absurd m
+levelled_more n (p ∷ rs) r h l q (inl e) = h q (inl e)
+levelled_more n (p ∷ rs) r h l q (inr m) = levelled_more n rs r (λ x k. h x (inr k)) l q m
+
+-- the one behind them is the first that is not
+pub too_high_first : (n : ℕ) (rs : List Record) (r : Record) (behind all : List Record) → all ≡ rs ++ r ∷ behind → Levelled n rs → n ≤ r.level → First (TooHigh n all) (length rs)
+too_high_first n rs r behind all e h l = ((r, ap (λ xs. slice_get xs (length rs)) e ∙ stands rs, l), λ k lt w. omega (arith, w.2, h w.0 (nth_in w.0 rs k (before rs k lt (sym (ap (λ xs. slice_get xs k) e) ∙ w.1)))))
+  where
+    stands : (rs : List Record) → slice_get (rs ++ r ∷ behind) (length rs) ≡ Some r
+    stands [] = refl
+    stands (p ∷ rs) = stands rs
+
+    before : (rs : List Record) (k : ℕ) → k < length rs → {q : Record} → slice_get (rs ++ r ∷ behind) k ≡ Some q → slice_get rs k ≡ Some q
+    before [] k lt e = absurd (omega arith)
+    before (p ∷ rs) zero lt e = e
+    before (p ∷ rs) (suc k) lt e = before rs k (omega arith) e
 
 -- R3
 follows_from : (p : Record) (rs : List Record) → ((k : ℕ) → Misnumbered (p ∷ rs) (suc k) → ⊥) → Follows p rs

@@ -1,30 +1,23 @@
-// The first three rules of a listing, over the rows that hold its records: the root, the levels, the numbers. One pass
-// each, to the first place that breaks the rule.
+// The first rule of a listing, over a source, and the third, over the rows that hold its records, in one pass to the first
+// place that breaks it. The second is tried while the rows are filled.
 
 ghost use Rattle.std.specs.Prelude.{◌≡◌, ℕ, ◌+◌, ◌-◌, ◌<◌, ◌≤◌, map, length, IfSome, Decides, MatchOption, slice_index_or};
-ghost use Rattle.listing.specs.Listing.{Rooted, Levelled, Next, Numbered};
+ghost use Rattle.listing.specs.Listing.{Rooted, Next, Numbered};
 ghost use Rattle.rows.specs.Rows.{no_row, entry_of};
-ghost use Rattle.rows.specs.Breaks.{First, TooHigh, Misnumbered};
+ghost use Rattle.rows.specs.Breaks.{First, Misnumbered};
 
 use crate::row::Row;
-use listing::{Record, Target};
+use listing::Target;
+use source::Source;
 
 // Whether the root keeps the first rule.
-pub fn is_rooted(root: Target, rows: &[Row]) -> bool
-    ensures { Decides result (Rooted root (map entry_of rows.now)) }
+pub fn is_rooted<S: Source>(source: &S) -> bool
+    ensures { Decides result (Rooted (S.top source.now) (S.listed source.now)) }
 {
-    match rows.first() {
-        None => matches!(root, Target::False | Target::True),
-        Some(first) => root.names(Record::from(*first)),
+    match source.record(0) {
+        None => matches!(source.root(), Target::False | Target::True),
+        Some(first) => source.root().names(first),
     }
-}
-
-// The first place whose record has a level that is not below n.
-pub fn level_break(n: u16, rows: &[Row]) -> Option<usize>
-    ensures breaks { MatchOption result (Levelled n (map entry_of rows.now)) (First (TooHigh n (map entry_of rows.now))) }
-    ensures below { IfSome result (λ p. p < length rows.now) }
-{
-    rows.iter().position(|r| r.level >= n)
 }
 
 // Whether r may come behind p: the next number on p's level, or number 0 on a higher level.
