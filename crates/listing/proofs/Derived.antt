@@ -1,7 +1,9 @@
 -- What the derived comparisons of targets and records say.
-use Rattle.std.proofs.Common.{◌≡◌, refl, ap, Decides}
+use Rattle.std.proofs.Common.{◌≡◌, refl, ap, Decides, List, Bool}
 use mathlib.Core.Path.{subst⁻¹}
 use Rattle.std.proofs.lemmas.Bool.Decides.{Decides-eqb}
+use Rattle.std.proofs.lemmas.Slice.Eq.{slice_eq-Decides}
+use lib.Pointwise.{pointwise}
 use Rattle.listing.specs.declared.Target.{Target}
 use Rattle.listing.specs.declared.Target.TheVariants.{Node, False, True}
 use Rattle.listing.specs.declared.Record.{Record}
@@ -33,6 +35,10 @@ record_eq a b =
     instead _ (both _ _ (Decides-eqb a.level b.level) (both _ _ (Decides-eqb a.number b.number) (both _ _ (target_eq a.low b.low) (target_eq a.high b.high))))
     (λ h i. record { level = h.0 i; number = h.1.0 i; low = h.1.1.0 i; high = h.1.1.1 i })
     (λ e. (ap (λ (r : Record). r.level) e, (ap (λ (r : Record). r.number) e, (ap (λ (r : Record). r.low) e, ap (λ (r : Record). r.high) e))))
+
+-- so `==` of two lists of records does too
+pub records_eq : (xs ys : List Record) (r : Bool) → r ≡ pointwise (of_record.ghosts).eq xs ys → Decides r (xs ≡ ys)
+records_eq xs ys r e = slice_eq-Decides record_eq xs ys r e
 
 -- the derived comparison of targets is their order
 pub target_cmp : (t u : Target) → (by_target.ghosts).cmp t u ≡ rank_target t u

@@ -6,6 +6,7 @@ ghost use Rattle.listing.specs.Meaning.{Canonical, Least, Decided};
 use crate::{Record, Target};
 
 /// Whether two lists of records are equal. Stops at the first difference.
+#[tactic(auto, using(crate::proofs::Derived::records_eq))]
 pub fn same_records(left: &[Record], right: &[Record]) -> bool
     ensures { Decides result (left.now ≡ right.now) }
 {
