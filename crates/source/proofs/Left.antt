@@ -2,7 +2,7 @@
 use Rattle.std.proofs.Common.{◌≡◌, ℕ, zero, suc, ◌+◌, ◌<◌, List, [], ◌∷◌, ◌++◌, take, drop, length, Some, None, Option, sym, refl, ap, ◌∙◌, arith, append-nil, length-append}
 use Rattle.std.specs.List.{slice_get}
 use Rattle.std.specs.Option.{MatchOption}
-use Rattle.std.specs.Iterator.{YieldsFirst, Yields, MakesProgress, at_most}
+use Rattle.std.specs.Iterator.{YieldsFirst, Yields}
 
 none_left : {X : Type 0} (xs : List X) (a b : ℕ) → None ≡ slice_get xs a → drop a (take b xs) ≡ []
 none_left [] zero zero e = refl
@@ -30,11 +30,6 @@ some_left (y ∷ ys) (suc a) (suc b) x h e =
 pub first_left : {X : Type 0} (xs : List X) (a b : ℕ) (r : Option X) → a < b → r ≡ slice_get xs a → MatchOption r ((drop a (take b xs) ≡ []) × (drop (a + 1) (take b xs) ≡ [])) (λ x. drop a (take b xs) ≡ x ∷ drop (a + 1) (take b xs))
 first_left xs a b None h e = let n = none_left xs a b e in (n, none_more (take b xs) a n)
 first_left xs a b (Some x) h e = some_left xs a b x h e
-
--- such a step is one of those that are left
-pub goes_left : {S X : Type 0} (rest : S → List X) (s t : S) (r : Option X) → YieldsFirst rest s r t → MakesProgress (λ _. Unit {0}) (λ z. at_most (length (rest z))) s r t
-goes_left rest s t None h = record { on = λ _. tt; keeps = tt; rests = λ _. tt }
-goes_left rest s t (Some x) h = let k = ap length h in record { on = λ _. (tt, tt, omega (arith, k)); keeps = tt; rests = λ _. tt }
 
 came : {S X : Type 0} (rest : S → List X) (s : S) (xs : List X) (t : S) → Yields (YieldsFirst rest) s xs t → rest s ≡ xs ++ rest t
 came rest s [] t h = ap rest h

@@ -2,7 +2,7 @@
 
 ghost use Rattle.std.specs.Prelude.{◌≡◌, ◌^◌, ◌<◌, length, drop};
 ghost use Rattle.std.specs.Iterator.{YieldsFirst, item_count};
-ghost use Rattle.source.specs.Walking.{left};
+ghost use Rattle.source.specs.Walking.{left, FirstFrom};
 
 use crate::Source;
 use listing::Record;
@@ -34,6 +34,14 @@ pub fn each_record<'a, S: Source>(source: &'a S) -> Walk<'a, S>
     records_from(source, 0)
 }
 
+// The record at a place, as the first of those from there to `end`.
+fn first_left<S: Source>(source: &S, place: usize, end: usize) -> Option<Record>
+    requires { place < end }
+    ensures { FirstFrom (S.listed source.now) place end result }
+{
+    source.record(place)
+}
+
 impl<'a, S: Source> Iterator for Walk<'a, S> {
     type Item = Record;
 
@@ -43,6 +51,6 @@ impl<'a, S: Source> Iterator for Walk<'a, S> {
 
     fn next(&mut self) -> Option<Record> {
         let place = self.places.next()?;
-        self.source.record(place)
+        first_left(self.source, place, self.places.end)
     }
 }
