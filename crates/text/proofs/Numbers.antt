@@ -83,3 +83,6 @@ numeral_digits (y ∷ ys) l n m = sym (cond-false _ _ _ (ne_eqb y 32 n) ∙ cond
 pub below_wider : (o : Option ℕ) (a b : ℕ) → a ≤ b → MatchOption o (0 < 10 ^ a) (λ v. v < 10 ^ a) → MatchOption o (0 < 10 ^ b) (λ v. v < 10 ^ b)
 below_wider None a b h p = one-le-pow b 10 (lit< tt)
 below_wider (Some v) a b h p = omega (arith, pow-le-pow_right {n = 10} (lit< tt) h)
+
+pub below_absent : (o : Option ℕ) (a : ℕ) → o ≡ None → MatchOption o (0 < 10 ^ a) (λ v. v < 10 ^ a)
+below_absent o a e = rw e (one-le-pow a 10 (lit< tt))

@@ -1,6 +1,6 @@
 // The column reader: a column is the bytes of one number, which stands at their right end after blanks.
 
-ghost use Rattle.std.specs.Prelude.{◌≡◌, ◌^◌, ◌<◌, ◌≤◌, ◌==◌, not, length, position, MatchOption};
+ghost use Rattle.std.specs.Prelude.{◌≡◌, ◌^◌, ◌<◌, ◌≤◌, ◌==◌, not, length, position, MatchOption, Some};
 ghost use Rattle.std.specs.Option.{unwrap_or};
 ghost use Rattle.text.specs.Columns.{digits, numeral};
 
@@ -27,13 +27,13 @@ fn behind_blanks(column: &[u8]) -> Option<usize>
     column.iter().position(|b| *b != b' ')
 }
 
-// The number in a column, absent where the bytes are not blanks and then a decimal number without needless zeros.
-pub fn number_in(column: &[u8]) -> Option<u32>
+// The number in a column whose blanks end at `first`.
+fn number_from(column: &[u8], first: usize) -> Option<u32>
     requires narrow { length column.now ≤ 9 }
+    requires first { Some first ≡ position (λ b. not (b == 32)) column.now }
     ensures value { result ≡ numeral column.now }
     ensures below { MatchOption result (0 < 10 ^ length column.now) (λ v. v < 10 ^ length column.now) }
 {
-    let first = behind_blanks(column)?;
     let text = &column[first..];
     if text[0] != b'0' {
         digits_of(text)
@@ -42,6 +42,17 @@ pub fn number_in(column: &[u8]) -> Option<u32>
     } else {
         None
     }
+}
+
+// The number in a column, absent where the bytes are not blanks and then a decimal number without needless zeros.
+#[tactic(auto, using(crate::proofs::Numbers::blank_all, crate::proofs::Numbers::below_absent))]
+pub fn number_in(column: &[u8]) -> Option<u32>
+    requires narrow { length column.now ≤ 9 }
+    ensures value { result ≡ numeral column.now }
+    ensures below { MatchOption result (0 < 10 ^ length column.now) (λ v. v < 10 ^ length column.now) }
+{
+    let first = behind_blanks(column)?;
+    number_from(column, first)
 }
 
 // The number in a column, or 0 where it is malformed: what a text says is told of all bytes, and its first fault apart.
