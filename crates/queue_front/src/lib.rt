@@ -91,12 +91,9 @@ impl<K: Ord + Copy, V: Copy, Q: Queue<K, V>> Queue<K, V> for FrontSlot<K, V, Q> 
 
     /// Costs O(1) where the slot is full, else a take below.
     fn take(&mut self) -> Option<Element<K, V>> {
-        // no `or_else`: nothing is known of what its closure leaves below; no `take` of the slot, which moves it whole
-        match self.slot {
-            Some(first) => {
-                self.slot = None;
-                Some(first)
-            }
+        // no `or_else`: nothing is known of what its closure leaves below
+        match self.slot.take() {
+            Some(first) => Some(first),
             None => self.below.take(),
         }
     }
